@@ -1,0 +1,4 @@
+-- What the proofs of several functions use.
+pub mod Walk
+pub mod Folds
+pub mod RowLaws
