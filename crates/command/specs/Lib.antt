@@ -1,0 +1,3 @@
+pub mod Command
+pub mod Lookup
+pub mod Walk

@@ -1,0 +1,25 @@
+/* The calls that the archive of the command crate gives to C. A byte slice
+ * is a pointer, which is not NULL, and a length. */
+
+#ifndef COMMAND_H
+#define COMMAND_H
+
+#include <stddef.h>
+#include <stdint.h>
+
+/* 0, 24, 25 or 26. */
+uint32_t command_check(const uint8_t *command, size_t length);
+
+/* The check's number, then 6 if the key is absent, else 0. */
+uint32_t command_argument_number(const uint8_t *command, size_t length,
+                                 const uint8_t *key, size_t key_length);
+
+/* The check's number, then 6, 7 or 8, else 0. */
+uint32_t command_integer_number(const uint8_t *command, size_t length,
+                                const uint8_t *key, size_t key_length);
+
+/* The integer, or 0 if it is refused. */
+int64_t command_integer(const uint8_t *command, size_t length,
+                        const uint8_t *key, size_t key_length);
+
+#endif

@@ -1,0 +1,203 @@
+/* Compares the archive's four calls with the second implementation, from C
+ * as the desk tool calls them.
+ *
+ *     compare [commands [seed]]
+ *
+ * Every command lies against a page that may not be touched: the even ones
+ * end just before such a page, the odd ones begin just after one. A read or
+ * write outside the lent bytes ends the program. */
+
+#include <inttypes.h>
+#include <stdio.h>
+#include <stdlib.h>
+#include <string.h>
+#include <sys/mman.h>
+#include <unistd.h>
+
+#include "command.h"
+#include "second.h"
+
+#define ANSWERS 7
+static const uint32_t numbers[ANSWERS] = {0, 24, 25, 26, 6, 7, 8};
+
+struct answers {
+    uint32_t check;
+    uint32_t argument_number;
+    uint32_t integer_number;
+    int64_t integer;
+};
+
+struct slice {
+    const uint8_t *bytes;
+    size_t length;
+};
+
+static struct answers archive_answers(struct slice command, struct slice key)
+{
+    const uint8_t *c = command.bytes, *k = key.bytes;
+    struct answers answers;
+    answers.check = command_check(c, command.length);
+    answers.argument_number = command_argument_number(c, command.length, k, key.length);
+    answers.integer_number = command_integer_number(c, command.length, k, key.length);
+    answers.integer = command_integer(c, command.length, k, key.length);
+    return answers;
+}
+
+static struct answers second_answers(struct slice command, struct slice key)
+{
+    const uint8_t *c = command.bytes, *k = key.bytes;
+    struct answers answers;
+    answers.check = second_check(c, command.length);
+    answers.argument_number = second_argument_number(c, command.length, k, key.length);
+    answers.integer_number = second_integer_number(c, command.length, k, key.length);
+    answers.integer = second_integer(c, command.length, k, key.length);
+    return answers;
+}
+
+static int equal(struct answers one, struct answers other)
+{
+    return one.check == other.check && one.argument_number == other.argument_number
+        && one.integer_number == other.integer_number && one.integer == other.integer;
+}
+
+static void print_answers(const char *side, struct answers answers)
+{
+    printf("%s check %" PRIu32 ", argument_number %" PRIu32 ", integer_number %" PRIu32
+           ", integer %" PRId64 "\n",
+           side, answers.check, answers.argument_number, answers.integer_number, answers.integer);
+}
+
+static void print_hex(const char *what, struct slice slice)
+{
+    printf("%s ", what);
+    for (size_t i = 0; i < slice.length; i++)
+        printf("%02x", slice.bytes[i]);
+    printf("\n");
+}
+
+/* Room for commands and keys between two pages that may not be touched. */
+struct fenced {
+    uint8_t *room;
+    size_t size;
+};
+
+static struct fenced make_fenced(size_t wanted)
+{
+    size_t page = (size_t)sysconf(_SC_PAGESIZE);
+    size_t size = (wanted + page - 1) / page * page;
+    uint8_t *all = mmap(NULL, size + 2 * page, PROT_NONE, MAP_PRIVATE | MAP_ANONYMOUS, -1, 0);
+    if (all == MAP_FAILED || mprotect(all + page, size, PROT_READ | PROT_WRITE) != 0) {
+        perror("compare (C)");
+        exit(1);
+    }
+    return (struct fenced){all + page, size};
+}
+
+static struct slice put(struct fenced fenced, struct slice slice, int at_end)
+{
+    if (slice.length > fenced.size) {
+        printf("compare (C): a slice of %zu bytes has no room\n", slice.length);
+        exit(1);
+    }
+    uint8_t *place = fenced.room + (at_end ? fenced.size - slice.length : 0);
+    if (slice.length > 0)
+        memcpy(place, slice.bytes, slice.length);
+    return (struct slice){place, slice.length};
+}
+
+static int same_bytes(struct slice one, struct slice other)
+{
+    return one.length == 0 || memcmp(one.bytes, other.bytes, one.length) == 0;
+}
+
+static void fail(struct slice command, struct slice key, uint64_t seed, uint64_t index,
+                 const char *reason)
+{
+    printf("compare (C): %s at seed %" PRIu64 ", index %" PRIu64 "\n", reason, seed, index);
+    print_hex("command", command);
+    print_hex("key    ", key);
+    exit(1);
+}
+
+/* How often a call gave each of the numbers. */
+struct count {
+    const char *call;
+    int possible; /* how many of the numbers, from the first, it can give */
+    uint64_t counts[ANSWERS];
+};
+
+static void add(struct count *count, uint32_t number)
+{
+    for (int i = 0; i < ANSWERS; i++)
+        if (numbers[i] == number)
+            count->counts[i]++;
+}
+
+static void print_count(const struct count *count)
+{
+    printf("%-24s", count->call);
+    for (int i = 0; i < count->possible; i++)
+        printf("  %" PRIu32 ": %" PRIu64, numbers[i], count->counts[i]);
+    printf("\n");
+}
+
+static void fail_if_rare(const struct count *count, uint64_t commands)
+{
+    for (int i = 0; i < count->possible; i++) {
+        if (count->counts[i] == 0 || count->counts[i] * 100 < commands) {
+            printf("compare (C): %s gave %" PRIu32 " in less than 1%%\n", count->call, numbers[i]);
+            exit(1);
+        }
+    }
+}
+
+static struct answers compare(struct fenced for_command, struct fenced for_key, uint64_t seed,
+                              uint64_t index)
+{
+    struct generated *generated = generated_new(seed, index);
+    struct slice command, key;
+    command.bytes = generated_command(generated, &command.length);
+    key.bytes = generated_key(generated, &key.length);
+    int at_end = index % 2 == 0;
+    struct slice lent = put(for_command, command, at_end);
+    struct slice lent_key = put(for_key, key, at_end);
+
+    struct answers archive = archive_answers(lent, lent_key);
+    struct answers second = second_answers(command, key);
+    if (!equal(archive, second)) {
+        print_answers("archive", archive);
+        print_answers("second ", second);
+        fail(command, key, seed, index, "difference");
+    }
+    if (!same_bytes(lent, command) || !same_bytes(lent_key, key))
+        fail(command, key, seed, index, "the lent bytes were changed");
+    generated_free(generated);
+    return archive;
+}
+
+int main(int argc, char **argv)
+{
+    uint64_t commands = argc > 1 ? strtoull(argv[1], NULL, 10) : 300000;
+    uint64_t seed = argc > 2 ? strtoull(argv[2], NULL, 10) : 2;
+    struct count counts[3] = {
+        {"command_check", 4, {0}},
+        {"command_argument_number", 5, {0}},
+        {"command_integer_number", 7, {0}},
+    };
+    struct fenced for_command = make_fenced(1 << 18);
+    struct fenced for_key = make_fenced(1 << 14);
+
+    printf("compare (C): seed %" PRIu64 "\n", seed);
+    for (uint64_t index = 0; index < commands; index++) {
+        struct answers answers = compare(for_command, for_key, seed, index);
+        add(&counts[0], answers.check);
+        add(&counts[1], answers.argument_number);
+        add(&counts[2], answers.integer_number);
+    }
+    for (int i = 0; i < 3; i++)
+        print_count(&counts[i]);
+    for (int i = 0; i < 3; i++)
+        fail_if_rare(&counts[i], commands);
+    printf("compare (C): %" PRIu64 " commands, no difference\n", commands);
+    return 0;
+}

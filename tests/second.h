@@ -1,0 +1,26 @@
+/* The second implementation and the generator, as bridge.rs gives them
+ * to C. */
+
+#ifndef SECOND_H
+#define SECOND_H
+
+#include <stddef.h>
+#include <stdint.h>
+
+uint32_t second_check(const uint8_t *command, size_t length);
+uint32_t second_argument_number(const uint8_t *command, size_t length,
+                                const uint8_t *key, size_t key_length);
+uint32_t second_integer_number(const uint8_t *command, size_t length,
+                               const uint8_t *key, size_t key_length);
+int64_t second_integer(const uint8_t *command, size_t length,
+                       const uint8_t *key, size_t key_length);
+
+struct generated;
+
+/* The command and key of a seed and an index, to be freed. */
+struct generated *generated_new(uint64_t seed, uint64_t index);
+void generated_free(struct generated *generated);
+const uint8_t *generated_command(const struct generated *generated, size_t *length);
+const uint8_t *generated_key(const struct generated *generated, size_t *length);
+
+#endif

@@ -1,0 +1,201 @@
+//! Judges the tree of a command, and looks arguments up in it.
+
+use crate::value::{read_whole, Value};
+
+#[derive(Clone, Copy, Debug, PartialEq, Eq)]
+pub enum Refusal {
+    Absent,
+    NotAnInteger,
+    OutOfRange,
+    NotAnItem,
+    NotACommand,
+    DoubleKey,
+}
+
+impl Refusal {
+    pub fn number(self) -> u32 {
+        match self {
+            Refusal::Absent => 6,
+            Refusal::NotAnInteger => 7,
+            Refusal::OutOfRange => 8,
+            Refusal::NotAnItem => 24,
+            Refusal::NotACommand => 25,
+            Refusal::DoubleKey => 26,
+        }
+    }
+}
+
+type Entries<'a> = Vec<(Value<'a>, Value<'a>)>;
+
+/// A command that passed the check.
+#[derive(Debug)]
+pub struct Command<'a> {
+    pub name: &'a [u8],
+    /// The keys are byte strings, each once.
+    pub args: Entries<'a>,
+}
+
+/// Judges 24 before 25 before 26, each over the whole command.
+pub fn read(bytes: &[u8]) -> Result<Command<'_>, Refusal> {
+    let tree = read_whole(bytes).ok_or(Refusal::NotAnItem)?;
+    let Value::Map(entries) = tree else {
+        return Err(Refusal::NotACommand);
+    };
+    let double = has_double_key(&entries);
+    let command = shape(entries).ok_or(Refusal::NotACommand)?;
+    if double || has_double_key(&command.args) {
+        return Err(Refusal::DoubleKey);
+    }
+    Ok(command)
+}
+
+/// Where a key occurs several times, the last one is kept; the caller
+/// refuses such a command anyway.
+fn shape(entries: Entries<'_>) -> Option<Command<'_>> {
+    let mut name = None;
+    let mut args = None;
+    for entry in entries {
+        match entry {
+            (Value::Bytes(b"name"), Value::Bytes(content)) if is_name(content) => {
+                name = Some(content);
+            }
+            (Value::Bytes(b"args"), Value::Map(map)) if is_args(&map) => {
+                args = Some(map);
+            }
+            (Value::Bytes(b"redirect"), Value::Map(_)) => {}
+            _ => return None,
+        }
+    }
+    Some(Command {
+        name: name?,
+        args: args?,
+    })
+}
+
+fn is_name(content: &[u8]) -> bool {
+    (1..=64).contains(&content.len())
+}
+
+fn is_args(map: &Entries<'_>) -> bool {
+    map.iter().all(|(key, _)| matches!(key, Value::Bytes(_)))
+}
+
+/// The tree holds no heads, so equal values are equal by content.
+fn has_double_key(entries: &Entries<'_>) -> bool {
+    let mut keys: Vec<&Value> = entries.iter().map(|(key, _)| key).collect();
+    keys.sort_unstable();
+    keys.windows(2).any(|pair| pair[0] == pair[1])
+}
+
+impl<'a> Command<'a> {
+    pub fn argument(&self, key: &[u8]) -> Result<&Value<'a>, Refusal> {
+        self.args
+            .iter()
+            .find(|(held, _)| matches!(held, Value::Bytes(content) if *content == key))
+            .map(|(_, value)| value)
+            .ok_or(Refusal::Absent)
+    }
+
+    pub fn integer(&self, key: &[u8]) -> Result<i64, Refusal> {
+        let (n, negative) = match self.argument(key)? {
+            Value::Unsigned(n) => (*n, false),
+            Value::Negative(n) => (*n, true),
+            _ => return Err(Refusal::NotAnInteger),
+        };
+        let n = i64::try_from(n).map_err(|_| Refusal::OutOfRange)?;
+        Ok(if negative { -1 - n } else { n })
+    }
+}
+
+fn number<T>(answer: Result<T, Refusal>) -> u32 {
+    answer.err().map_or(0, Refusal::number)
+}
+
+pub fn check(command: &[u8]) -> u32 {
+    number(read(command))
+}
+
+pub fn argument_number(command: &[u8], key: &[u8]) -> u32 {
+    number(read(command).and_then(|command| command.argument(key).map(|_| ())))
+}
+
+pub fn integer_number(command: &[u8], key: &[u8]) -> u32 {
+    number(read(command).and_then(|command| command.integer(key)))
+}
+
+pub fn integer(command: &[u8], key: &[u8]) -> i64 {
+    read(command)
+        .and_then(|command| command.integer(key))
+        .unwrap_or(0)
+}
+
+#[cfg(test)]
+mod tests {
+    use super::*;
+
+    const NAME: &[u8] = b"\x44name\x43set";
+
+    fn with_argument(value: &[u8]) -> Vec<u8> {
+        [b"\xa2", NAME, b"\x44args\xa1\x41k", value].concat()
+    }
+
+    /// T1's command bytes.
+    #[test]
+    fn whole_command() {
+        let bytes = [b"\xa2", NAME, b"\x44args\xa0"].concat();
+        let command = read(&bytes).unwrap();
+        assert_eq!(command.name, b"set");
+        assert!(command.args.is_empty());
+    }
+
+    /// T8 and T9.
+    #[test]
+    fn integers() {
+        let cases: [(&[u8], Result<i64, Refusal>); 7] = [
+            (b"\x3b\x7f\xff\xff\xff\xff\xff\xff\xff", Ok(i64::MIN)),
+            (b"\x3b\x80\0\0\0\0\0\0\0", Err(Refusal::OutOfRange)),
+            (b"\x20", Ok(-1)),
+            (b"\x1b\x7f\xff\xff\xff\xff\xff\xff\xff", Ok(i64::MAX)),
+            (b"\x1b\x80\0\0\0\0\0\0\0", Err(Refusal::OutOfRange)),
+            (b"\x1a\0\0\0\x05", Ok(5)),
+            (b"\x41\x05", Err(Refusal::NotAnInteger)),
+        ];
+        for (value, answer) in cases {
+            let bytes = with_argument(value);
+            assert_eq!(check(&bytes), 0);
+            assert_eq!(read(&bytes).unwrap().integer(b"k"), answer, "{value:02x?}");
+            assert_eq!(argument_number(&bytes, b"no"), 6);
+        }
+    }
+
+    /// T10.
+    #[test]
+    fn empty_command() {
+        assert_eq!(check(b""), 24);
+    }
+
+    /// T11. The outer map and the args map are two of the levels.
+    #[test]
+    fn levels() {
+        assert_eq!(check(&with_argument(b"\x81\x81\x81\x81\x81\x80")), 0);
+        assert_eq!(check(&with_argument(b"\x81\x81\x81\x81\x81\x81\x80")), 24);
+    }
+
+    #[test]
+    fn lower_numbers_first() {
+        let twice = [b"\xa3", NAME, NAME, b"\x44args\xa0"].concat();
+        assert_eq!(check(&twice), 26);
+        let twice_no_args = [b"\xa2", NAME, NAME].concat();
+        assert_eq!(check(&twice_no_args), 25);
+        let left_over = [&twice_no_args[..], b"\0"].concat();
+        assert_eq!(check(&left_over), 24);
+    }
+
+    #[test]
+    fn keys_of_other_width_are_equal() {
+        let bytes = [b"\xa2", NAME, b"\x44args\xa2\x41k\0\x59\0\x01k\x01"].concat();
+        assert_eq!(check(&bytes), 26);
+        let deeper = with_argument(b"\xa2\x41k\0\x59\0\x01k\x01");
+        assert_eq!(check(&deeper), 0);
+    }
+}
