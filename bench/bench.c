@@ -14,7 +14,7 @@
 #include <string.h>
 #include <time.h>
 
-#include "../tests/command.h"
+#include "command.h"
 #include "../tests/second.h"
 #ifdef HAVE_LIBCBOR
 #include <cbor.h>

@@ -4,6 +4,7 @@ ghost use mathlib.Core.Path.{_≡_};
 ghost use Prim.Native.Nat.{_+_, _≤_, _<_};
 ghost use lib.ListN.{length};
 ghost use Rattle.cbor.specs.Cbor.{width, bigEndian, headAt, bytesAt, tagged, itemAt, scalarOf, key, value, repeat, pair, isItem};
+ghost use Rattle.cbor.specs.End.{EndOf};
 
 // What reading a head finds: its major type, the low five bits of its first byte, its value and the position after it.
 pub enum Head {
@@ -98,17 +99,31 @@ pub fn read_head(s: &[u8], at: usize) -> Head
     }
 }
 
+// The position after n bytes from `from` on, or one past the slice's end where it has fewer. The length is never added before it is
+// compared with what is there.
+fn end_of(s: &[u8], from: usize, n: u64) -> usize
+    ensures { λ r. ⌜ EndOf (length (now (s .entry))) from n r ⌝ }
+{
+    let past = s.len() + 1;
+    if s.len() < from {
+        return past;
+    }
+    let room = (s.len() - from) as u64;
+    if room < n {
+        return past;
+    }
+    from + (n as usize)
+}
+
 // A byte string of n bytes that starts at `from`.
 fn bytes_from(s: &[u8], n: u64, from: usize) -> Item
     ensures { λ r. ⌜ r ≡ bytesAt (now (s .entry)) n from ⌝ }
 {
-    if s.len() < from {
+    let stop = end_of(s, from, n);
+    if s.len() < stop {
         return Item::Refused;
     }
-    if ((s.len() - from) as u64) < n {
-        return Item::Refused;
-    }
-    Item::Bytes(from, from + (n as usize))
+    Item::Bytes(from, stop)
 }
 
 // What a tag stands before: a set, where it is 258 and an array's head follows.
@@ -195,7 +210,7 @@ pub fn read_key(s: &[u8], at: usize) -> Next
 }
 
 // The n members of a set.
-pub fn read_set(s: &[u8], n: u64, at: usize) -> Next
+fn read_set(s: &[u8], n: u64, at: usize) -> Next
     ensures { λ r. ⌜ r ≡ repeat n (key (now (s .entry))) at ⌝ }
 {
     let mut p = at;

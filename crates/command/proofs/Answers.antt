@@ -2,20 +2,18 @@
 -- Assumes nothing.
 use mathlib.Core.Path.{_≡_, refl}
 use mathlib.Core.List.{[], _∷_}
-use mathlib.Core.Bool.{Bool}
 use Prim.Native.Nat.{ℕ}
 use denote.Enum.Declared.{tagOf}
 use types.Run.{OneOf, miss}
 use Rattle.cbor.specs.declared.Item.{Item}
 use Rattle.cbor.specs.declared.Item.the-variants.{Unsigned, Negative, Bytes, Simple, Array, Map, Set, Refused}
 use Rattle.cbor.proofs.Item as item
-use Rattle.command.specs.declared.Checked.{Checked}
-use Rattle.command.specs.declared.Checked.the-variants.{Command, NotItem, NotCommand, DoubleKey}
+use Rattle.command_map.specs.declared.Checked.{Checked}
+use Rattle.command_map.specs.declared.Checked.the-variants.{Command, NotItem, NotCommand, DoubleKey}
 use Rattle.command.specs.declared.Number.the-variants.{NoNumber}
 use Rattle.command.specs.Command.{ifCommand, numberOf}
 use Rattle.command.specs.Lookup.{signedOf}
-use Rattle.command.specs.Walk.{alsoDouble}
-use Rattle.command.proofs.Checked as checked
+use Rattle.command_map.proofs.Checked as checked
 
 pub not-integer : (x : Item) → OneOf (2 ∷ 3 ∷ 4 ∷ 5 ∷ 6 ∷ 7 ∷ []) (tagOf item.the-type x) → NoNumber 7 ≡ signedOf x
 not-integer (Unsigned n next) h = absurd (miss (2 ∷ 3 ∷ 4 ∷ 5 ∷ 6 ∷ 7 ∷ []) 0 tt h)
@@ -33,10 +31,3 @@ not-command (Command start stop count first) h f g = absurd (miss (1 ∷ 2 ∷ 3
 not-command NotItem h f g = refl
 not-command NotCommand h f g = refl
 not-command DoubleKey h f g = refl
-
--- a refusal stays, whatever else is double
-pub still-refused : (t : Bool) (c : Checked) → OneOf (1 ∷ 2 ∷ 3 ∷ []) (tagOf checked.the-type c) → alsoDouble t c ≡ c
-still-refused t (Command start stop count first) h = absurd (miss (1 ∷ 2 ∷ 3 ∷ []) 0 tt h)
-still-refused t NotItem h = refl
-still-refused t NotCommand h = refl
-still-refused t DoubleKey h = refl

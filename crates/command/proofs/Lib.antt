@@ -1,4 +1,5 @@
 -- What the proofs of several functions use.
 mod Answers
-mod Judgement
 mod Signed
+pub mod Empty
+pub mod Traces

@@ -1,3 +1,4 @@
 pub mod Command
 pub mod Lookup
-pub mod Walk
+pub mod Laws
+pub mod Traces

@@ -1,4 +1,5 @@
 -- What the proofs of several functions use.
+pub mod Bools
 pub mod Walk
 pub mod Folds
 pub mod RowLaws

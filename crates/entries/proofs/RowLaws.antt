@@ -8,14 +8,19 @@ use native.Mathlib.Nat.{le-of-lt}
 use native.Mathlib.Numerals.{add-one}
 use native.Mathlib.Omega.{arith}
 use lib.ListN.{length, take, set, length-set}
-use lib.Dec.{leb}
+use lib.Dec.{ltb, leb}
 use lib.Seq.{take-suc-set, length-take-le}
-use borrow.Author.Tests.{leb-true}
+use borrow.Author.Tests.{leb-true, ltb-true}
+use denote.Enum.Declared.{tagOf}
+use types.Run.{OneOf}
 use Rattle.keys.specs.Keys.{part, keysAt, twice}
 use Rattle.entries.specs.declared.Entry.{Entry}
-use Rattle.entries.specs.declared.Entry.the-variants.{Keyed}
+use Rattle.entries.specs.declared.Entry.the-variants.{Keyed, Other, Broken}
 use Rattle.entries.specs.Entries.{contents}
-use Rattle.entries.specs.Row.{kept, Keeps, rowDouble}
+use Rattle.entries.specs.Row.{kept, rowDouble, roomFor, keptCount, keptStarts, keptStops, Keeps}
+use Rattle.entries.proofs.Entry.{the-type}
+use Rattle.entries.proofs.Folds.{not-keyed}
+use Rattle.entries.proofs.Bools.{and-left, and-right}
 use Rattle.entries.proofs.Walk.{contents-more}
 
 suc-same : {m n : ℕ} → suc m ≡ suc n → m ≡ n
@@ -35,13 +40,35 @@ module _ (s : List ℕ) where
       rw (add-one, take-suc-set starts k a h, take-suc-set stops k b j)
       (snoc (take k starts) (take k stops) a b (rw (length-take-le k starts (le-of-lt h), length-take-le k stops (le-of-lt j))))
 
--- what `keep` leaves in each of its cases: no room, a key that is no byte string, and a place stored
+-- What `keep` answers and leaves, in each of its cases: no room, room, and a key that is no byte string.
+module _ (starts stops : List ℕ) (k : ℕ) (e : Entry) where
+  module _ (a b q : ℕ) (i : e ≡ Keyed a b q) where
+    pub no-room : roomFor starts stops k a b ≡ false → Keeps starts stops starts stops k e (length starts + 1)
+    unfolding keptCount keptStarts keptStops
+    no-room h = record { count = rw (i, h); starts-after = rw (i, h); stops-after = rw (i, h) }
+
+    pub room : roomFor starts stops k a b ≡ true → Keeps starts stops (set starts k a) (set stops k b) k e (k + 1)
+    unfolding keptCount keptStarts keptStops
+    room h = record { count = rw (i, h); starts-after = rw (i, h); stops-after = rw (i, h) }
+
+  pub no-key : OneOf (1 ∷ 2 ∷ []) (tagOf the-type e) → Keeps starts stops starts stops k e k
+  unfolding keptCount keptStarts keptStops
+  no-key h = record { count = rw (not-keyed e h); starts-after = rw (not-keyed e h); stops-after = rw (not-keyed e h) }
+
+-- What the walk needs of it: rows as long as before and, if r is not past their end, the k keys of before and then the entry's.
+pub record More (starts stops starts′ stops′ : List ℕ) (k : ℕ) (e : Entry) (r : ℕ) : Type 0 where
+  pub long : length starts′ ≡ length starts
+  pub long′ : length stops′ ≡ length stops
+  pub before : r ≤ length starts → k ≤ length starts
+  pub within : r ≤ length starts → k ≤ length stops → r ≤ length stops
+  pub more : r ≤ length starts → (s : List ℕ) → kept s starts′ stops′ r ≡ kept s starts stops k ++ contents s (e ∷ [])
+
 module _ (starts stops : List ℕ) (k : ℕ) where
   past : (n : ℕ) → n + 1 ≤ n → ⊥
   past n h = omega arith
 
-  pub no-room : (e : Entry) → Keeps starts stops starts stops k e (length starts + 1)
-  no-room e = record {
+  more-full : (e : Entry) → More starts stops starts stops k e (length starts + 1)
+  more-full e = record {
     long = refl;
     long′ = refl;
     before = λ h. absurd (past (length starts) h);
@@ -49,18 +76,33 @@ module _ (starts stops : List ℕ) (k : ℕ) where
     more = λ h. absurd (past (length starts) h);
   }
 
-  pub no-key : (e : Entry) → ((s : List ℕ) → contents s (e ∷ []) ≡ []) → Keeps starts stops starts stops k e k
-  no-key e f = record { long = refl; long′ = refl; before = λ h. h; within = λ h j. j; more = λ h s. rw (f s, append-nil) }
+  more-none : (e : Entry) → ((s : List ℕ) → contents s (e ∷ []) ≡ []) → More starts stops starts stops k e k
+  more-none e f = record { long = refl; long′ = refl; before = λ h. h; within = λ h j. j; more = λ h s. rw (f s, append-nil) }
 
-  pub stored : (a b q : ℕ) (e : Entry) → e ≡ Keyed a b q → k < length starts → k < length stops → Keeps starts stops (set starts k a) (set stops k b) k e (k + 1)
+  more-one : (a b q : ℕ) → k < length starts → k < length stops → More starts stops (set starts k a) (set stops k b) k (Keyed a b q) (k + 1)
   unfolding contents
-  stored a b q e i h j = record {
+  more-one a b q h j = record {
     long = simp length-set;
     long′ = simp length-set;
     before = λ l. omega arith;
     within = λ l m. omega arith;
-    more = λ l s. rw (i) (kept-more s starts stops k a b h j);
+    more = λ l s. kept-more s starts stops k a b h j;
   }
+
+  by-room : (a b q : ℕ) (t : Bool) → roomFor starts stops k a b ≡ t → More starts stops (cond t (set starts k a) starts) (cond t (set stops k b) stops) k (Keyed a b q) (cond t (k + 1) (length starts + 1))
+  by-room a b q true h =
+      let two = and-left _ (leb a 65535) (and-left _ (leb b 65535) h) in
+      more-one a b q (ltb-true k (length starts) (and-left _ (ltb k (length stops)) two)) (ltb-true k (length stops) (and-right (ltb k (length starts)) _ two))
+  by-room a b q false h = more-full (Keyed a b q)
+
+  more-of : (e : Entry) → More starts stops (keptStarts starts stops k e) (keptStops starts stops k e) k e (keptCount starts stops k e)
+  unfolding keptCount keptStarts keptStops contents
+  more-of (Keyed a b q) = by-room a b q (roomFor starts stops k a b) refl
+  more-of (Other q) = more-none (Other q) (λ s. refl)
+  more-of Broken = more-none Broken (λ s. refl)
+
+  pub keeps-more : (starts′ stops′ : List ℕ) (e : Entry) (r : ℕ) → Keeps starts stops starts′ stops′ k e r → More starts stops starts′ stops′ k e r
+  keeps-more starts′ stops′ e r h = rw (h .count, h .starts-after, h .stops-after) (more-of e)
 
 -- A row under way: the keys of the entries es are the k kept and then those of the entries still to come.
 pub record Under (s : List ℕ) (es rest : List Entry) (starts stops : List ℕ) (k : ℕ) : Type 0 where
@@ -72,7 +114,7 @@ module _ (s : List ℕ) (es : List Entry) where
   unfolding kept keysAt
   under-none starts stops = record { within = λ h. omega arith; same = λ h. refl }
 
-  pub under-more : (e : Entry) (rest : List Entry) (starts stops starts′ stops′ : List ℕ) (k r : ℕ) → Under s es (e ∷ rest) starts stops k → Keeps starts stops starts′ stops′ k e r → Under s es rest starts′ stops′ r
+  pub under-more : (e : Entry) (rest : List Entry) (starts stops starts′ stops′ : List ℕ) (k r : ℕ) → Under s es (e ∷ rest) starts stops k → More starts stops starts′ stops′ k e r → Under s es rest starts′ stops′ r
   under-more e rest starts stops starts′ stops′ k r u h = record {
     within = λ l. let m : r ≤ length starts = omega (arith, h .long) in let w = h .within m (u .within (h .before m)) in omega (arith, h .long′);
     same = λ l. let m : r ≤ length starts = omega (arith, h .long) in
@@ -84,11 +126,11 @@ module _ (s : List ℕ) (es : List Entry) where
   under-all rest starts stops k u e h = u .same h ∙ rw (e, append-nil)
 
 -- a row that has the keys of the entries answers for them
-by-room : (P : Bool) (Q : Bool) (a b : Bool) → (P ≡ true → a ≡ b) → cond (P && Q) a b ≡ b
-by-room true true a b h = h refl
-by-room true false a b h = refl
-by-room false Q a b h = refl
+in-row : (P : Bool) (Q : Bool) (a b : Bool) → (P ≡ true → a ≡ b) → cond (P && Q) a b ≡ b
+in-row true true a b h = h refl
+in-row true false a b h = refl
+in-row false Q a b h = refl
 
 pub row-answers : (s : List ℕ) (es : List Entry) (starts stops : List ℕ) (k : ℕ) → (k ≤ length starts → contents s es ≡ kept s starts stops k) → rowDouble s es starts stops k ≡ twice (contents s es)
 unfolding rowDouble
-row-answers s es starts stops k h = by-room (leb k (length starts)) (leb k (length stops)) _ _ (λ e. ap twice (sym (h (leb-true k (length starts) e))))
+row-answers s es starts stops k h = in-row (leb k (length starts)) (leb k (length stops)) _ _ (λ e. ap twice (sym (h (leb-true k (length starts) e))))

@@ -17,7 +17,7 @@ use Rattle.cbor.proofs.Ahead.{pair-moves, value-moves, nearer}
 use Rattle.keys.specs.Keys.{part, equal, among, twice}
 use Rattle.entries.specs.declared.Entry.{Entry}
 use Rattle.entries.specs.declared.Entry.the-variants.{Keyed, Other, Broken}
-use Rattle.entries.specs.Entries.{ifKeyed, isKeyed, nextOf, keyed, other, entryOf, onward, entryAt, entries, contents, hasKey, again, find}
+use Rattle.entries.specs.Entries.{isKeyed, nextOf, keyed, other, entryOf, onward, entryAt, entries, contents, hasKey, again, find}
 
 next-keyed : (start stop : ℕ) (x : Next) → nextOf (keyed start stop x) ≡ x
 next-keyed start stop (At q) = refl

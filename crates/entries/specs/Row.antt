@@ -1,16 +1,16 @@
 -- A row of places: where keys' contents start and stop. `keep` puts one more key there.
 -- These are definitions: they assume nothing.
-use Prim.Native.Nat.{ℕ, _≤_}
+use Prim.Native.Nat.{ℕ, _+_, _≤_}
 use mathlib.Core.Path.{_≡_}
-use mathlib.Core.List.{List, [], _∷_, _++_}
+use mathlib.Core.List.{List}
 use mathlib.Core.Bool.{Bool, true, false, cond, _&&_}
-use lib.Dec.{leb}
-use lib.ListN.{length, take}
+use lib.Dec.{ltb, leb}
+use lib.ListN.{length, take, set}
 use Rattle.keys.specs.Keys.{keysAt, twice}
 use Rattle.entries.specs.declared.Entry.{Entry}
 use Rattle.entries.specs.declared.Kept.{Kept}
 use Rattle.entries.specs.declared.Kept.the-variants.{Strings, Mixed}
-use Rattle.entries.specs.Entries.{all, isKeyed, contents}
+use Rattle.entries.specs.Entries.{all, ifKeyed, isKeyed, contents}
 
 -- the first k keys of a row
 unfoldable pub kept : List ℕ → List ℕ → List ℕ → ℕ → List (List ℕ)
@@ -20,13 +20,26 @@ kept s starts stops k = keysAt s (take k starts) (take k stops)
 unfoldable pub rowDouble : List ℕ → List Entry → List ℕ → List ℕ → ℕ → Bool
 rowDouble s es starts stops k = cond (leb k (length starts) && leb k (length stops)) (twice (kept s starts stops k)) (twice (contents s es))
 
--- What `keep` leaves: rows as long as before and, if its answer r is not past their end, the k keys of before and then the entry's.
+-- whether a row of k places has room for one more, and the place fits in 16 bits
+abbrev pub roomFor : List ℕ → List ℕ → ℕ → ℕ → ℕ → Bool
+roomFor starts stops k start stop = ltb k (length starts) && ltb k (length stops) && leb start 65535 && leb stop 65535
+
+-- how many places the row has after an entry: one more, or a number past its end; as many as before if the key is no byte string
+unfoldable pub keptCount : List ℕ → List ℕ → ℕ → Entry → ℕ
+keptCount starts stops k e = ifKeyed e (λ start stop next. cond (roomFor starts stops k start stop) (k + 1) (length starts + 1)) k
+
+-- the row's starts and its stops after an entry
+unfoldable pub keptStarts : List ℕ → List ℕ → ℕ → Entry → List ℕ
+keptStarts starts stops k e = ifKeyed e (λ start stop next. cond (roomFor starts stops k start stop) (set starts k start) starts) starts
+
+unfoldable pub keptStops : List ℕ → List ℕ → ℕ → Entry → List ℕ
+keptStops starts stops k e = ifKeyed e (λ start stop next. cond (roomFor starts stops k start stop) (set stops k stop) stops) stops
+
+-- what `keep` answers, r, and leaves
 pub record Keeps (starts stops starts′ stops′ : List ℕ) (k : ℕ) (e : Entry) (r : ℕ) : Type 0 where
-  pub long : length starts′ ≡ length starts
-  pub long′ : length stops′ ≡ length stops
-  pub before : r ≤ length starts → k ≤ length starts
-  pub within : r ≤ length starts → k ≤ length stops → r ≤ length stops
-  pub more : r ≤ length starts → (s : List ℕ) → kept s starts′ stops′ r ≡ kept s starts stops k ++ contents s (e ∷ [])
+  pub count : r ≡ keptCount starts stops k e
+  pub starts-after : starts′ ≡ keptStarts starts stops k e
+  pub stops-after : stops′ ≡ keptStops starts stops k e
 
 -- What a row of k places is for entries with byte string keys: if k is not past its end, their keys.
 pub record Holds (s : List ℕ) (es : List Entry) (starts stops : List ℕ) (k : ℕ) : Type 0 where

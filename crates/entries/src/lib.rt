@@ -2,8 +2,7 @@
 use cbor::Item;
 use cbor::Next;
 ghost use mathlib.Core.Path.{_≡_};
-ghost use Prim.Native.Nat.{_+_, _≤_, _<_};
-ghost use lib.ListN.{length};
+ghost use Prim.Native.Nat.{_+_, _<_};
 ghost use Rattle.keys.specs.Keys.{twice};
 ghost use Rattle.entries.specs.Entries.{nextOf, isKeyed, entryAt, entries, contents, hasKey, again, find, keysOf};
 ghost use Rattle.entries.specs.Row.{Keeps, KeptAll, rowDouble};

@@ -1,7 +1,6 @@
 -- `command::integer_at` meets its contract, by the place of the argument and its item.
 -- Assumes nothing.
 
-use native.Mathlib.Omega.{arith}
 use borrow.Author.Needs.{needs}
 use Rattle.command.specs.Lookup.{integerAt}
 use Rattle.command.proofs.integer_at.Statement.{statement}

@@ -14,7 +14,7 @@ returns-2 : tie.Need-returns-2
 unfolding nameOf
 returns-2 c =
     let s = c .before .before in
-    rw (← s .before .before .check .ensures, s .start .given .1) (c .part .ensures)
+    rw (← s .before .before .check .ensures, s .from .given .1) (c .part .ensures)
 
 pub name-spec : {M : Type 1} → statement M
 name-spec =

@@ -1,7 +1,5 @@
 -- `command::signed_of` meets its contract, by the variant that the item is and the test of its head value.
 -- Assumes nothing.
-use mathlib.Core.Path.{_≡_, refl, sym, ap, _∙_}
-use native.Mathlib.Omega.{arith}
 use borrow.Author.Needs.{needs}
 use Prim.Native.Nat.{_^_}
 use borrow.Author.Tests.{le-ltb, lt-ltb}

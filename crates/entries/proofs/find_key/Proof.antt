@@ -5,8 +5,7 @@ use Prim.Native.Nat.{_-_}
 use lib.ListN.{length}
 use native.Mathlib.Omega.{arith}
 use borrow.Author.Needs.{needs}
-use Rattle.cbor.specs.declared.Next.the-variants.{At}
-use Rattle.entries.specs.Entries.{nextOf, entries, find}
+use Rattle.entries.specs.Entries.{entries, find}
 use Rattle.entries.proofs.Walk.{entry-nearer, ends, breaks, goes}
 use Rattle.entries.proofs.find_key.Statement.{statement}
 use Rattle.entries.proofs.find_key.Tie as tie

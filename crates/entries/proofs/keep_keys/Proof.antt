@@ -1,6 +1,6 @@
 -- `entries::keep_keys` meets its contract. The loop's invariant: the keys passed are byte strings, and the row has them.
 -- Assumes nothing.
-use mathlib.Core.Path.{_≡_, refl, sym, ap, _∙_}
+use mathlib.Core.Path.{_≡_, refl, sym, _∙_}
 use Prim.Native.Nat.{_-_}
 use lib.ListN.{length}
 use native.Mathlib.Omega.{arith}
@@ -8,11 +8,9 @@ use borrow.Author.Needs.{needs}
 use borrow.Author.Tests.{not-true, not-false}
 use Rattle.entries.specs.Entries.{all, isKeyed, entries}
 use Rattle.entries.proofs.Walk.{entry-nearer, ends, breaks, goes}
-use Rattle.entries.proofs.RowLaws.{Under, under-none, under-more, under-all}
+use Rattle.entries.proofs.RowLaws.{keeps-more, Under, under-none, under-more, under-all}
 use Rattle.entries.proofs.keep_keys.Statement.{statement}
 use Rattle.entries.proofs.keep_keys.Tie as tie
-use Rattle.entries.proofs.keep_keys.Reads as reads
-use Rattle.entries.proofs.keep_keys.Lts as lts
 
 abbrev Inv-loop : tie.InvT-loop
 Inv-loop s levels n at starts₀ stops₀ p₀ left₀ k₀ starts stops p left k =
@@ -59,11 +57,12 @@ loop-again c =
     let e = q .before .before .before .before in
     let l = e .before in
     let i = l .before .loop .inv in
-    let g = goes _ _ _ _ _ (l .loop-test .taken) (e .read-entry .ensures) _ (sym (q .before .before .before .next-of .ensures) ∙ q .before .next .given .1) in (
+    let g = goes _ _ _ _ _ (l .loop-test .taken) (e .read-entry .ensures) _ (sym (q .before .before .before .next-of .ensures) ∙ q .before .next .given .1) in
+    let m = keeps-more _ _ _ _ _ _ _ (k .keep .ensures) in (
       i .0 ∙ rw (g, sym (t .before .is-keyed .ensures) ∙ not-false _ (t .if1 .left)),
-      under-more _ _ _ _ _ _ _ _ _ _ (rw g at (i .1)) (k .keep .ensures),
-      k .keep .ensures .long ∙ i .2,
-      k .keep .ensures .long′ ∙ i .3,
+      under-more _ _ _ _ _ _ _ _ _ _ (rw g at (i .1)) m,
+      m .long ∙ i .2,
+      m .long′ ∙ i .3,
     )
 
 returns-3 : tie.Need-returns-3 Inv-loop μ-loop

@@ -1,0 +1,70 @@
+-- Document 01's traces of commands, T8 to T11, and further ones: for each command and argument key, the check's number, and the number and
+-- the value of the argument as an integer. proofs/Traces.antt proves the table.
+-- These are definitions: they assume nothing.
+use Prim.Native.Nat.{ℕ, _-_, _^_}
+use mathlib.Core.List.{List, [], _∷_}
+use lib.IntN.{ℤ, pos, negsuc}
+use Rattle.command.specs.Command.{checked, numberOf}
+use Rattle.command.specs.Lookup.{numberNumber, numberValue, integerAt}
+
+pub record Answer : Type 0 where
+  pub checked : ℕ
+  pub number : ℕ
+  pub value : ℤ
+
+pub record Trace : Type 0 where
+  pub command : List ℕ
+  pub key : List ℕ
+  pub answer : Answer
+
+-- a command with the name `set` and these bytes for the value of `args`
+abbrev withArgs : List ℕ → List ℕ
+withArgs l = 0xa2 ∷ 0x44 ∷ 0x6e ∷ 0x61 ∷ 0x6d ∷ 0x65 ∷ 0x43 ∷ 0x73 ∷ 0x65 ∷ 0x74 ∷ 0x44 ∷ 0x61 ∷ 0x72 ∷ 0x67 ∷ 0x73 ∷ l
+
+-- one argument, `x`, with these bytes for its value
+abbrev withX : List ℕ → List ℕ
+withX l = withArgs (0xa1 ∷ 0x41 ∷ 0x78 ∷ l)
+
+abbrev x : List ℕ
+x = 0x78 ∷ []
+
+abbrev row : List ℕ → ℕ → ℕ → ℤ → Trace
+row c n m z = record { command = c; key = x; answer = record { checked = n; number = m; value = z } }
+
+unfoldable pub traces : List Trace
+traces =
+    -- T8: 3B 7F and seven FF means -2^63, and 3B 80 and seven 00 gives 8
+    row (withX (0x3b ∷ 0x7f ∷ 0xff ∷ 0xff ∷ 0xff ∷ 0xff ∷ 0xff ∷ 0xff ∷ 0xff ∷ [])) 0 0 (negsuc (2 ^ 63 - 1)) ∷
+    row (withX (0x3b ∷ 0x80 ∷ 0 ∷ 0 ∷ 0 ∷ 0 ∷ 0 ∷ 0 ∷ 0 ∷ [])) 0 8 (pos 0) ∷
+    -- T9: 20 means -1
+    row (withX (0x20 ∷ [])) 0 0 (negsuc 0) ∷
+    -- T10: the empty command
+    row [] 24 24 (pos 0) ∷
+    -- T11: eight levels are allowed (the outer map, `args`, six arrays; an array is no integer: 7), nine give 24
+    row (withX (0x81 ∷ 0x81 ∷ 0x81 ∷ 0x81 ∷ 0x81 ∷ 0x81 ∷ 0 ∷ [])) 0 7 (pos 0) ∷
+    row (withX (0x81 ∷ 0x81 ∷ 0x81 ∷ 0x81 ∷ 0x81 ∷ 0x81 ∷ 0x80 ∷ [])) 24 24 (pos 0) ∷
+    -- T1's command: no argument
+    row (withArgs (0xa0 ∷ [])) 0 6 (pos 0) ∷
+    -- 2^63-1 and 2^63
+    row (withX (0x1b ∷ 0x7f ∷ 0xff ∷ 0xff ∷ 0xff ∷ 0xff ∷ 0xff ∷ 0xff ∷ 0xff ∷ [])) 0 0 (pos (2 ^ 63 - 1)) ∷
+    row (withX (0x1b ∷ 0x80 ∷ 0 ∷ 0 ∷ 0 ∷ 0 ∷ 0 ∷ 0 ∷ 0 ∷ [])) 0 8 (pos 0) ∷
+    -- a key twice, the second with a wider head
+    row (withArgs (0xa2 ∷ 0x41 ∷ 0x78 ∷ 0 ∷ 0x58 ∷ 1 ∷ 0x78 ∷ 0 ∷ [])) 26 26 (pos 0) ∷
+    -- a key of `args` that is no byte string; `args` that is no map; an item that is no map
+    row (withArgs (0xa1 ∷ 0 ∷ 0 ∷ [])) 25 25 (pos 0) ∷
+    row (withArgs (0x80 ∷ [])) 25 25 (pos 0) ∷
+    row (0 ∷ []) 25 25 (pos 0) ∷
+    -- a value missing; an array that claims 2^64-1 elements
+    row (withArgs (0xa1 ∷ 0x41 ∷ 0x78 ∷ [])) 24 24 (pos 0) ∷
+    row (withX (0x9b ∷ 0xff ∷ 0xff ∷ 0xff ∷ 0xff ∷ 0xff ∷ 0xff ∷ 0xff ∷ 0xff ∷ 0 ∷ [])) 24 24 (pos 0) ∷
+    -- a set, its members twice
+    row (withX (0xd9 ∷ 0x01 ∷ 0x02 ∷ 0x82 ∷ 0x01 ∷ 0x01 ∷ [])) 0 7 (pos 0) ∷
+    []
+
+-- what the definitions answer
+unfoldable pub answerOf : Trace → Answer
+answerOf t = record {
+  checked = numberOf (checked (t .command));
+  number = numberNumber (integerAt (t .command) (t .key));
+  value = numberValue (integerAt (t .command) (t .key));
+}

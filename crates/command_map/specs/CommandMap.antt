@@ -1,0 +1,71 @@
+-- The command map, as document 01, "Command bytes", states it: the refusals 25 and 26, tried in that order.
+-- Definitions on the list of a command's bytes: they assume nothing.
+use Prim.Native.Nat.{ℕ, _-_}
+use mathlib.Core.List.{List, [], _∷_}
+use mathlib.Core.Bool.{Bool, true, false, cond, _&&_, _||_}
+use lib.Dec.{leb}
+use Rattle.cbor.specs.declared.Item.{Item}
+use Rattle.cbor.specs.declared.Item.the-variants.{Refused}
+use Rattle.cbor.specs.Cbor.{ifBytes, ifMap, itemAt}
+use Rattle.keys.specs.Keys.{twice}
+use Rattle.entries.specs.declared.Entry.{Entry}
+use Rattle.entries.specs.Entries.{all, any, ifKeyed, isKeyed, entries, contents, hasKey, find}
+use Rattle.command_map.specs.declared.Checked.{Checked}
+use Rattle.command_map.specs.declared.Checked.the-variants.{Command, NotCommand, DoubleKey}
+
+-- `name`, `args`, `redirect`
+abbrev pub name-key : List ℕ
+name-key = 110 ∷ 97 ∷ 109 ∷ 101 ∷ []
+
+abbrev pub args-key : List ℕ
+args-key = 97 ∷ 114 ∷ 103 ∷ 115 ∷ []
+
+abbrev pub redirect-key : List ℕ
+redirect-key = 114 ∷ 101 ∷ 100 ∷ 105 ∷ 114 ∷ 101 ∷ 99 ∷ 116 ∷ []
+
+-- a byte string of 1 to 64 bytes
+abbrev pub isName : Item → Bool
+isName x = ifBytes x (λ start stop. leb 1 (stop - start) && leb (stop - start) 64) false
+
+-- a map
+abbrev pub isMap : Item → Bool
+isMap x = ifMap x (λ n at. true) false
+
+module _ (s : List ℕ) where
+  -- a map with byte string keys; it is the second level, so its values have six
+  abbrev pub isArgs : Item → Bool
+  isArgs x = ifMap x (λ n at. all isKeyed (entries s 6 n at)) false
+
+  -- a map in which a key stands twice
+  abbrev pub hasDouble : Item → Bool
+  hasDouble x = ifMap x (λ n at. twice (contents s (entries s 6 n at))) false
+
+  -- an entry's value
+  abbrev pub valueItem : Entry → Item
+  valueItem e = ifKeyed e (λ start stop next. itemAt s stop) Refused
+
+  -- 25: the keys are byte strings among `name`, `args` and `redirect`, each with its kind of value
+  unfoldable pub allowed : Entry → Bool
+  allowed e =
+      cond (hasKey s name-key e) (isName (valueItem e))
+      (cond (hasKey s args-key e) (isArgs (valueItem e))
+      (cond (hasKey s redirect-key e) (isMap (valueItem e)) false))
+
+  -- 25 too: `name` and `args` occur; these are their first values
+  unfoldable pub valueUnder : List ℕ → List Entry → Item
+  valueUnder key es = valueItem (find s key es)
+
+  -- 26: a key twice in the outer map or in `args`
+  unfoldable pub argsDouble : Entry → Bool
+  argsDouble e = hasKey s args-key e && hasDouble (valueItem e)
+
+  unfoldable pub double : List Entry → Bool
+  double es = twice (contents s es) || any argsDouble es
+
+  -- the outer map, by its entries
+  unfoldable pub mapOf : List Entry → Checked
+  mapOf es =
+      cond (all allowed es)
+      (ifBytes (valueUnder name-key es) (λ start stop.
+      ifMap (valueUnder args-key es) (λ count first.
+      cond (double es) DoubleKey (Command start stop count first)) NotCommand) NotCommand) NotCommand

@@ -1,0 +1,2 @@
+pub mod CommandMap
+pub mod Walk
