@@ -98,8 +98,8 @@ pub fn case(seed: u64, index: u64) -> Case {
     let start = Random::new(seed).next() ^ Random::new(!index).next();
     let random = &mut Random::new(start);
     match random.below(2000) {
-        0..=2 => large(random),
-        3..=79 => no_map(random),
+        0..=19 => large(random),
+        20..=79 => no_map(random),
         80..=379 => damaged(random),
         _ => drafted(random),
     }

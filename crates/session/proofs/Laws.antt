@@ -1,0 +1,249 @@
+-- Demand 3 over any receiver: a session comes to what the uncut reading comes to.
+-- Assumes nothing.
+use Prim.Native.Nat.{ℕ, zero, suc, _+_, _-_, _≤_}
+use mathlib.Core.Path.{_≡_, refl, sym, ap, _∙_, subst}
+use mathlib.Core.Bool.{Bool, true, false, _&&_}
+use mathlib.Core.List.{List, [], _∷_, _++_, map, append-assoc}
+use native.Mathlib.Nat.{zero-add, add-suc, suc-add}
+use native.Mathlib.Omega.{arith}
+use lib.ListN.{length, take, drop, length-append, length-drop}
+use lib.Seq.{take-append-seam}
+use lib.Dec.{ltb}
+use borrow.Author.Tests.{ltb-false, le-ltb}
+use Rattle.session.specs.Session.{Machine, Step, Feed, Reading, Outcome, Call, feeds, owns, Event, took, after, read, unchanged, wrote, feed, own, fed, answered, uncut, session, events}
+
+and-false : (a : Bool) → (a && false) ≡ false
+and-false true = refl
+and-false false = refl
+
+-- what the theorem asks of a receiver: an invariant that passes the checks 2 and 3 and that bytes and calls keep
+pub record Keeps (m : Machine) : Type 1 where
+  pub Ok : m .Recv → Type 0
+  pub roomy : (r : m .Recv) → Ok r → m .roomy r ≡ true
+  pub shaped : (r : m .Recv) → Ok r → m .shaped r ≡ true
+  pub plain : (r : m .Recv) → Ok r → m .plain r ≡ true
+  pub byte : (r : m .Recv) (b : ℕ) → Ok r → Ok (m .byte r b .next)
+  pub call : (r : m .Recv) (id : ℕ) → Ok r → Ok (m .call r id .next)
+
+module _ (m : Machine) where
+  -- ---- reading, case by case
+
+  pub read-short : (r : m .Recv) (room b : ℕ) (bs : List ℕ) → (m .closes r b && ltb room (m .longest)) ≡ true
+      → read m r room (b ∷ bs) ≡ record { number = 5; taken = 0; next = r; records = [] }
+  unfolding read
+  read-short r room b bs e = rw (e, read)
+
+  pub read-refused : (r : m .Recv) (room b : ℕ) (bs : List ℕ) (n : ℕ) → (m .closes r b && ltb room (m .longest)) ≡ false → m .dead (m .byte r b .next) ≡ suc n
+      → read m r room (b ∷ bs) ≡ record { number = suc n; taken = 1; next = m .byte r b .next; records = m .byte r b .adds }
+  unfolding read
+  read-refused r room b bs n e d = rw (e, d, read)
+
+  pub read-more : (r : m .Recv) (room b : ℕ) (bs : List ℕ) → (m .closes r b && ltb room (m .longest)) ≡ false → m .dead (m .byte r b .next) ≡ 0
+      → read m r room (b ∷ bs) ≡ after (m .byte r b .adds) (read m (m .byte r b .next) (room - length (m .byte r b .adds)) bs)
+  unfolding read
+  read-more r room b bs e d = rw (e, d, read)
+
+  -- the bytes that a reading took, read uncut, come to what the reading came to
+  abbrev AsUncut : m .Recv → List ℕ → List Event → Reading (m .Recv) → Type 0
+  AsUncut r input es g = uncut m r (map took (take (g .taken) input) ++ es) ≡ fed (g .records) (uncut m (g .next) es)
+
+  pub fed-fed : (a b : List ℕ) (o : Outcome (m .Recv)) → fed a (fed b o) ≡ fed (a ++ b) o
+  unfolding fed
+  fed-fed a b o = rw append-assoc
+
+  pub read-uncut : (r : m .Recv) (room : ℕ) (input : List ℕ) (es : List Event) → AsUncut r input es (read m r room input)
+  unfolding read fed uncut after
+  read-uncut r room [] es = refl
+  read-uncut r room (b ∷ bs) es =
+      stop (read-uncut (m .byte r b .next) (room - length (m .byte r b .adds)) bs es) (m .closes r b && ltb room (m .longest)) refl
+    where
+      s : Step (m .Recv)
+      s = m .byte r b
+
+      rest : Reading (m .Recv)
+      rest = read m (s .next) (room - length (s .adds)) bs
+
+      more : AsUncut (s .next) bs es rest → (d : ℕ) → (m .closes r b && ltb room (m .longest)) ≡ false → m .dead (s .next) ≡ d
+          → AsUncut r (b ∷ bs) es (read m r room (b ∷ bs))
+      more ih zero e d =
+          subst (AsUncut r (b ∷ bs) es) (sym (read-more r room b bs e d))
+          (ap (fed (s .adds)) ih ∙ fed-fed (s .adds) (rest .records) (uncut m (rest .next) es))
+      more ih (suc n) e d = subst (AsUncut r (b ∷ bs) es) (sym (read-refused r room b bs n e d)) refl
+
+      stop : AsUncut (s .next) bs es rest → (t : Bool) → (m .closes r b && ltb room (m .longest)) ≡ t → AsUncut r (b ∷ bs) es (read m r room (b ∷ bs))
+      stop ih true e = subst (AsUncut r (b ∷ bs) es) (sym (read-short r room b bs e)) refl
+      stop ih false e = more ih (m .dead (s .next)) e refl
+
+  -- ---- a feed: refused without change, or a reading
+
+  pub data Fed (r : m .Recv) (input out : List ℕ) : Feed (m .Recv) → Type 0 where
+    still : (n : ℕ) → Fed r input out (unchanged m r out n)
+    reads : Fed r input out (wrote m out (read m r (length out) input))
+
+  pub feed-cases : (r : m .Recv) (input out : List ℕ) → Fed r input out (feed m r input out)
+  unfolding feed
+  feed-cases r input out = roomy (m .roomy r) refl
+    where
+      F : Type 0
+      F = Fed r input out (feed m r input out)
+
+      short : (t : Bool) → m .roomy r ≡ true → m .shaped r ≡ true → m .dead r ≡ 0 → ltb (length out) (m .longest) ≡ t → F
+      short true a b c d = rw (a, b, c, d, feed) (still 1)
+      short false a b c d = rw (a, b, c, d, feed) reads
+
+      dead : (n : ℕ) → m .roomy r ≡ true → m .shaped r ≡ true → m .dead r ≡ n → F
+      dead zero a b c = short (ltb (length out) (m .longest)) a b c refl
+      dead (suc n) a b c = rw (a, b, c, feed) (still (suc n))
+
+      shaped : (t : Bool) → m .roomy r ≡ true → m .shaped r ≡ t → F
+      shaped true a b = dead (m .dead r) a b refl
+      shaped false a b = rw (a, b, feed) (still 3)
+
+      roomy : (t : Bool) → m .roomy r ≡ t → F
+      roomy true a = shaped (m .shaped r) a refl
+      roomy false a = rw (a, feed) (still 2)
+
+  -- ---- the invariant is kept
+
+  module _ (k : Keeps m) where
+    pub read-keeps : (r : m .Recv) (room : ℕ) (input : List ℕ) → k .Ok r → k .Ok (read m r room input .next)
+    unfolding read after
+    read-keeps r room [] h = h
+    read-keeps r room (b ∷ bs) h =
+        stop (read-keeps (m .byte r b .next) (room - length (m .byte r b .adds)) bs (k .byte r b h)) (m .closes r b && ltb room (m .longest)) refl
+      where
+        K : Reading (m .Recv) → Type 0
+        K g = k .Ok (g .next)
+
+        more : K (read m (m .byte r b .next) (room - length (m .byte r b .adds)) bs) → (d : ℕ) → (m .closes r b && ltb room (m .longest)) ≡ false
+            → m .dead (m .byte r b .next) ≡ d → K (read m r room (b ∷ bs))
+        more ih zero e d = subst K (sym (read-more r room b bs e d)) ih
+        more ih (suc n) e d = subst K (sym (read-refused r room b bs n e d)) (k .byte r b h)
+
+        stop : K (read m (m .byte r b .next) (room - length (m .byte r b .adds)) bs) → (t : Bool) → (m .closes r b && ltb room (m .longest)) ≡ t → K (read m r room (b ∷ bs))
+        stop ih true e = subst K (sym (read-short r room b bs e)) h
+        stop ih false e = more ih (m .dead (m .byte r b .next)) e refl
+
+    pub feed-keeps : (r : m .Recv) (input out : List ℕ) → k .Ok r → k .Ok (feed m r input out .next)
+    unfolding unchanged wrote
+    feed-keeps r input out h = go (feed m r input out) (feed-cases r input out)
+      where
+        go : (f : Feed (m .Recv)) → Fed r input out f → k .Ok (f .next)
+        go f (still n) = h
+        go f reads = read-keeps r (length out) input h
+
+    pub own-is : (r : m .Recv) (id : ℕ) → k .Ok r → own m r id ≡ m .call r id
+    unfolding own
+    own-is r id h = rw (k .plain r h, own)
+
+    -- ---- demand 3
+
+    one-feed : (r : m .Recv) (input out : List ℕ) (cs : List Call) (f : Feed (m .Recv)) → Fed r input out f
+        → session m (f .next) cs ≡ uncut m (f .next) (events m (f .next) cs)
+        → fed (take (f .written) (f .output)) (session m (f .next) cs) ≡ uncut m r (map took (take (f .taken) input) ++ events m (f .next) cs)
+    unfolding unchanged wrote fed
+    one-feed r input out cs f (still n) ih = ih
+    one-feed r input out cs f reads ih =
+        let g : Reading (m .Recv) = read m r (length out) input in
+        ap (λ (l : List ℕ). fed l (session m (g .next) cs)) (take-append-seam (g .records) (drop (length (g .records)) out))
+        ∙ ap (fed (g .records)) ih ∙ sym (read-uncut r (length out) input (events m (g .next) cs))
+
+    pub demand3 : (r : m .Recv) → k .Ok r → (cs : List Call) → session m r cs ≡ uncut m r (events m r cs)
+    unfolding session events uncut
+    demand3 r h [] = refl
+    demand3 r h (feeds input out ∷ cs) =
+        one-feed r input out cs (feed m r input out) (feed-cases r input out) (demand3 (feed m r input out .next) (feed-keeps r input out h) cs)
+    demand3 r h (owns id ∷ cs) =
+        rw (own-is r id h) (ap (answered (m .call r id .number)) (demand3 (m .call r id .next) (k .call r id h) cs))
+
+    -- 2 and 3 never arise later
+    pub session-keeps : (r : m .Recv) → k .Ok r → (cs : List Call) → k .Ok (session m r cs .end)
+    unfolding session fed answered
+    session-keeps r h [] = h
+    session-keeps r h (feeds input out ∷ cs) = session-keeps (feed m r input out .next) (feed-keeps r input out h) cs
+    session-keeps r h (owns id ∷ cs) = session-keeps (own m r id .next) (rw (own-is r id h) (k .call r id h)) cs
+
+  -- ---- progress: a feed that passes the checks, with some input, takes a byte
+
+  pub progress : (r : m .Recv) (b : ℕ) (bs out : List ℕ) → m .roomy r ≡ true → m .shaped r ≡ true → m .dead r ≡ 0 → m .longest ≤ length out
+      → 1 ≤ feed m r (b ∷ bs) out .taken
+  unfolding feed wrote after
+  progress r b bs out a h d l =
+      let e : ltb (length out) (m .longest) ≡ false = le-ltb (length out) (m .longest) l in
+      rw (a, h, d, e, feed) (more (m .dead (m .byte r b .next)) refl)
+    where
+      room : ℕ
+      room = length out
+
+      goes : (m .closes r b && ltb room (m .longest)) ≡ false
+      goes = rw (le-ltb room (m .longest) l) (and-false (m .closes r b))
+
+      more : (n : ℕ) → m .dead (m .byte r b .next) ≡ n → 1 ≤ read m r room (b ∷ bs) .taken
+      more zero e = rw (read-more r room b bs goes e) (omega arith)
+      more (suc n) e = rw (read-refused r room b bs n goes e) (omega arith)
+
+  -- ---- the records fit the output
+
+  module _ (k : Keeps m)
+      (quiet : (r : m .Recv) (b : ℕ) → m .closes r b ≡ false → m .byte r b .adds ≡ [])
+      (bound : (r : m .Recv) (b : ℕ) → k .Ok r → length (m .byte r b .adds) ≤ m .longest) where
+    adds-fit : (r : m .Recv) (room b : ℕ) → k .Ok r → (c : Bool) → m .closes r b ≡ c → (c && ltb room (m .longest)) ≡ false → length (m .byte r b .adds) ≤ room
+    adds-fit r room b h true c e = omega (arith, bound r b h, ltb-false room (m .longest) e)
+    adds-fit r room b h false c e = rw (quiet r b c) (omega arith)
+
+    pub read-fits : (r : m .Recv) (room : ℕ) (input : List ℕ) → k .Ok r → length (read m r room input .records) ≤ room
+    unfolding read after
+    read-fits r room [] h = omega arith
+    read-fits r room (b ∷ bs) h =
+        stop (read-fits (m .byte r b .next) (room - length (m .byte r b .adds)) bs (k .byte r b h)) (m .closes r b && ltb room (m .longest)) refl
+      where
+        K : Reading (m .Recv) → Type 0
+        K g = length (g .records) ≤ room
+
+        s : Step (m .Recv)
+        s = m .byte r b
+
+        rest : Reading (m .Recv)
+        rest = read m (s .next) (room - length (s .adds)) bs
+
+        more : length (rest .records) ≤ room - length (s .adds) → (d : ℕ) → (m .closes r b && ltb room (m .longest)) ≡ false
+            → m .dead (s .next) ≡ d → K (read m r room (b ∷ bs))
+        more ih zero e d =
+            let l : length (s .adds) ≤ room = adds-fit r room b h (m .closes r b) refl e in
+            subst K (sym (read-more r room b bs e d)) (rw (length-append (s .adds) (rest .records)) (omega arith))
+        more ih (suc n) e d = subst K (sym (read-refused r room b bs n e d)) (adds-fit r room b h (m .closes r b) refl e)
+
+        stop : length (rest .records) ≤ room - length (s .adds) → (t : Bool) → (m .closes r b && ltb room (m .longest)) ≡ t → K (read m r room (b ∷ bs))
+        stop ih true e = subst K (sym (read-short r room b bs e)) (omega arith)
+        stop ih false e = more ih (m .dead (s .next)) e refl
+
+    pub feed-length : (r : m .Recv) (input out : List ℕ) → k .Ok r → length (feed m r input out .output) ≡ length out
+    unfolding unchanged wrote
+    feed-length r input out h = go (feed m r input out) (feed-cases r input out)
+      where
+        go : (f : Feed (m .Recv)) → Fed r input out f → length (f .output) ≡ length out
+        go f (still n) = refl
+        go f reads =
+            let l : length (read m r (length out) input .records) ≤ length out = read-fits r (length out) input h in
+            simp (length-append, length-drop) (omega arith)
+
+-- ---- for a loop over the input: what has been read so far, and the reading that is left
+
+abbrev pub behind : {R : Type 0} → ℕ → List ℕ → Reading R → Reading R
+behind n recs g = record { number = g .number; taken = n + g .taken; next = g .next; records = recs ++ g .records }
+
+pub behind-none : {R : Type 0} (g : Reading R) → g ≡ behind 0 [] g
+behind-none g = rw zero-add
+
+pub behind-after : {R : Type 0} (n : ℕ) (recs new : List ℕ) (g : Reading R) → behind n recs (after new g) ≡ behind (suc n) (recs ++ new) g
+unfolding after
+behind-after n recs new g = rw (add-suc, suc-add, append-assoc)
+
+-- a feed on a receiver to which neither 2 nor 3 applies
+pub feed-open : (m : Machine) (k : Keeps m) (r : m .Recv) (input out : List ℕ) → k .Ok r
+    → feed m r input out ≡ elim (m .dead r) as (λ _. Feed (m .Recv)) [
+      | suc n ↦ unchanged m r out (suc n)
+      | zero ↦ elim (ltb (length out) (m .longest)) as (λ _. Feed (m .Recv)) [ true ↦ unchanged m r out 1 | false ↦ wrote m out (read m r (length out) input) ]
+    ]
+unfolding feed
+feed-open m k r input out h = rw (k .roomy r h, k .shaped r h, feed)

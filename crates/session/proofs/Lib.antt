@@ -1,0 +1,4 @@
+-- The laws over every receiver.
+pub mod Laws
+pub mod Counts
+pub mod Simulation
