@@ -4,10 +4,10 @@ use mathlib.Core.List.{List, [], _∷_}
 use lib.ListN.{getD}
 use Rattle.keys.specs.Keys.{part}
 
--- a number below 65,536 made of a key's content, where h is made of the bytes before
+-- a number below 2^32 made of a key's content, where h is made of the bytes before
 unfoldable pub hashFrom : ℕ → List ℕ → ℕ
 hashFrom h [] = h
-hashFrom h (b ∷ l) = hashFrom ((h * 263 + b) % 65536) l
+hashFrom h (b ∷ l) = hashFrom ((h * 16777619 + b) % 4294967296) l
 
 unfoldable pub hash : List ℕ → ℕ
 hash l = hashFrom 0 l

@@ -44,14 +44,14 @@ pub fn same_key(a: &[u8], b: &[u8]) -> bool
     equal_bytes(a, b)
 }
 
-// A number made of a key's content: equal keys have equal numbers.
+// A number made of a key's content: equal keys have equal numbers. The multiplier is the prime of the FNV hash.
 fn key_hash(key: &[u8]) -> usize
     ensures { λ r. ⌜ r ≡ hash (now (key .entry)) ⌝ }
 {
     let mut h: usize = 0;
     let mut i: usize = 0;
     while i < key.len() {
-        h = (h * 263 + (key[i] as usize)) % 65536;
+        h = (h * 16777619 + (key[i] as usize)) % 4294967296;
         i += 1;
     }
     h

@@ -1,5 +1,5 @@
 -- `keys::key_hash` meets its contract. The loop's invariant: the key's number is made of h and what follows the i bytes passed, and h
--- is below 65,536. Assumes nothing.
+-- is below 2^32. Assumes nothing.
 use mathlib.Core.Path.{_≡_, refl, sym, _∙_}
 use Prim.Native.Nat.{_≤_, _<_, _-_}
 use native.Mathlib.Numerals.{add-one}
@@ -11,7 +11,7 @@ use Rattle.keys.proofs.key_hash.Statement.{statement}
 use Rattle.keys.proofs.key_hash.Tie as tie
 
 abbrev Inv-loop : tie.InvT-loop
-Inv-loop key h₀ i₀ h i = (i ≤ length key) × (h < 65536) × (hash key ≡ hashFrom h (drop i key))
+Inv-loop key h₀ i₀ h i = (i ≤ length key) × (h < 4294967296) × (hash key ≡ hashFrom h (drop i key))
 
 abbrev μ-loop : tie.MeasureT-loop
 μ-loop key h₀ i₀ h i = length key - i
