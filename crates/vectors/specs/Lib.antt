@@ -1,0 +1,4 @@
+pub mod Digits
+pub mod Answer
+pub mod Said
+pub mod Taken
