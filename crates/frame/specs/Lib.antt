@@ -1,3 +1,5 @@
 pub mod Limits
 pub mod Header
+pub mod Frame
 pub mod Settings
+pub mod Records

@@ -1,6 +1,6 @@
 -- A reading's number, taken count and records are those that `Counts` defines, and no other number and count are.
 -- Assumes nothing.
-use Prim.Native.Nat.{ℕ, zero, suc, _+_, _-_, _<_}
+use Prim.Native.Nat.{ℕ, zero, suc, _+_, _-_, _≤_, _<_}
 use mathlib.Core.Path.{_≡_, refl, sym, ap, _∙_, subst}
 use mathlib.Core.Bool.{Bool, true, false, _&&_, false≢true}
 use mathlib.Core.List.{List, [], _∷_, _++_, append-nil}
@@ -8,8 +8,8 @@ use native.Mathlib.Nat.{not-suc-le-zero}
 use native.Mathlib.Omega.{arith}
 use lib.ListN.{length, take, length-append}
 use lib.Dec.{ltb}
-use borrow.Author.Tests.{ltb-true, ltb-false}
-use Rattle.session.specs.Session.{Machine, Reading, after, read}
+use borrow.Author.Tests.{ltb-true, ltb-false, le-ltb}
+use Rattle.session.specs.Session.{Machine, Reading, after, read, wrote, feed}
 use Rattle.session.specs.Counts.{receiverAfter, recordsOf, stopsBefore, deadAfter, Ended, atEnd, short, refused, Counted}
 use Rattle.session.proofs.Laws.{read-short, read-refused, read-more}
 
@@ -169,3 +169,18 @@ module _ (m : Machine) where
     counted-once p t q u c d =
         let e = same-count c d in
         (one-number (c .ended) (rw e (d .ended)), e)
+
+  -- a feed that passes the checks is a reading, so its number and counts are those
+  feed-reads : (r : m .Recv) (input out : List ℕ) → m .roomy r ≡ true → m .shaped r ≡ true → m .dead r ≡ 0 → m .longest ≤ length out
+      → feed m r input out ≡ wrote m out (read m r (length out) input)
+  unfolding feed
+  feed-reads r input out a h d l =
+      let e : ltb (length out) (m .longest) ≡ false = le-ltb (length out) (m .longest) l in
+      rw (a, h, d, e, feed)
+
+  pub feed-counted : (r : m .Recv) (input out : List ℕ) → m .roomy r ≡ true → m .shaped r ≡ true → m .dead r ≡ 0 → m .longest ≤ length out
+      → Counted m r (length out) input (feed m r input out .number) (feed m r input out .taken)
+      × (feed m r input out .written ≡ length (recordsOf m r (take (feed m r input out .taken) input)))
+  unfolding wrote
+  feed-counted r input out a h d l =
+      rw (feed-reads r input out a h d l) (read-counted r (length out) input, ap length (read-records r (length out) input))

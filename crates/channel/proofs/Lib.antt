@@ -1,0 +1,14 @@
+-- Laws of the definitions, from the bottom up, and the demands.
+pub mod Bools
+pub mod SlotLaws
+pub mod RuleLaws
+pub mod ReceiverLaws
+pub mod PlaceLaws
+pub mod SeenLaws
+pub mod Demand3
+pub mod FrameLaws
+pub mod CountLaws
+pub mod HistoryLaws
+pub mod CutLaws
+pub mod Demand2
+pub mod Traces

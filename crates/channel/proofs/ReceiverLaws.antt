@@ -1,0 +1,398 @@
+-- Rule 3's shape is kept by every byte and every finish, and a record is never longer than the longest. Assumes nothing.
+use Prim.Native.Nat.{ℕ, zero, suc, _+_, _-_, _≤_, _<_}
+use mathlib.Core.Path.{_≡_, refl, sym, _∙_}
+use mathlib.Core.Bool.{Bool, true, false, _&&_, _||_, not, cond, false≢true}
+use mathlib.Core.List.{List, [], _∷_, _++_}
+use native.Mathlib.Omega.{arith}
+use lib.ListN.{length, take, drop, getD, set, length-set, length-append, length-take}
+use lib.Seq.{getD-set-other}
+use lib.Dec.{leb, ltb, eqb}
+use borrow.Author.Tests.{eqb-true, eqb-false, eq-eqb, ne-eqb, leb-true, leb-false, le-leb, ltb-true, ltb-false, lt-ltb}
+use Rattle.requests.specs.declared.Phase.{Phase}
+use Rattle.requests.specs.declared.Phase.the-variants.{Free, Collecting, Waiting, Running}
+use Rattle.requests.specs.declared.Slot.{Slot}
+use Rattle.channel.specs.declared.Channel.{Channel}
+use Rattle.frame.specs.Limits.{maxPayload, maxCommand, slotCount, longestRecord, frameArea, workArea, partStart}
+use Rattle.frame.specs.Frame.{Frame, frameOf, isEven, isType, isNew, isMore, dataFollows, isLast}
+use Rattle.frame.specs.Header.{lengthOf}
+use Rattle.frame.specs.Records.{recordOf, two, bit}
+use Rattle.channel.specs.Receiver.{Receiver, inPhase, isId, slotAt, placeOf, slotOf, lowestFree, target, commandLength, placed, command, refused, refusedWork, commandSlot, enter, dataSlot, slotsAfter, accepted, judge, put, isWhole, tooLong, counted, takeByte, freed, finishState, finish, viewOf}
+use Rattle.requests.specs.Phases.{freeSlot, isPhase, code}
+use Rattle.channel.specs.Channel.{slotFits, idIn, slotsFit, deadFits, plainShape, heldShape, shape}
+use Rattle.channel.specs.Rules.{recordWith, firstBroken, isCommand, rules}
+use Rattle.channel.proofs.Bools.{and-l, and-r, and-i, and-no, or-r, no-not, no-is, clash, by-cond}
+use Rattle.channel.proofs.SlotLaws.{found, inside, each-fits, set-fits, same-id, of-id}
+use Rattle.channel.proofs.RuleLaws.{precedes, passed, in-range}
+use Rattle.channel.proofs.PlaceLaws.{length-write}
+
+-- the shape, part by part; the count of slots is the array's length
+pub record Ok (r : Receiver) : Type 0 where
+  pub work : workArea ≤ length (r .work)
+  pub count : length (r .state .slots) ≡ slotCount
+  pub pending : r .state .pending < frameArea
+  pub slots : slotsFit (r .state .slots) ≡ true
+  pub dead : deadFits (r .state .dead) ≡ true
+  pub held : heldShape r ≡ true
+
+pub ok-start : (r : Receiver) → leb workArea (length (r .work)) ≡ true → length (r .state .slots) ≡ slotCount → shape r ≡ true → Ok r
+unfolding shape plainShape
+ok-start r a c h =
+    let s = r .state in
+    let p : plainShape s ≡ true = and-l (plainShape s) (heldShape r) h in
+    let q : (ltb (s .pending) frameArea && slotsFit (s .slots)) ≡ true = and-l (ltb (s .pending) frameArea && slotsFit (s .slots)) (deadFits (s .dead)) p in
+    record {
+      work = leb-true workArea (length (r .work)) a;
+      count = c;
+      pending = ltb-true (s .pending) frameArea (and-l (ltb (s .pending) frameArea) (slotsFit (s .slots)) q);
+      slots = and-r (ltb (s .pending) frameArea) (slotsFit (s .slots)) q;
+      dead = and-r (ltb (s .pending) frameArea && slotsFit (s .slots)) (deadFits (s .dead)) p;
+      held = and-r (plainShape s) (heldShape r) h;
+    }
+
+pub ok-plain : (r : Receiver) → Ok r → plainShape (r .state) ≡ true
+unfolding plainShape
+ok-plain r k =
+    let s = r .state in
+    and-i (ltb (s .pending) frameArea && slotsFit (s .slots)) (deadFits (s .dead))
+    (and-i (ltb (s .pending) frameArea) (slotsFit (s .slots)) (lt-ltb (s .pending) frameArea (k .pending)) (k .slots)) (k .dead)
+
+pub ok-shape : (r : Receiver) → Ok r → shape r ≡ true
+unfolding shape
+ok-shape r k = and-i (plainShape (r .state)) (heldShape r) (ok-plain r k) (k .held)
+
+-- ---- the held length
+
+held-e : (r : Receiver) → heldShape r ≡ true → 8 ≤ r .state .pending → (lengthOf (r .work) ≤ maxPayload) × (r .state .pending < 8 + lengthOf (r .work))
+unfolding heldShape
+held-e r e h = go (ltb (r .state .pending) 8) refl e
+  where
+    n : ℕ
+    n = r .state .pending
+
+    L : ℕ
+    L = lengthOf (r .work)
+
+    go : (c : Bool) → ltb n 8 ≡ c → (c || leb L maxPayload && ltb n (8 + L)) ≡ true → (L ≤ maxPayload) × (n < 8 + L)
+    go true q p = absurd (below (ltb-true n 8 q))
+      where
+        below : n < 8 → ⊥
+        below l = omega arith
+    go false q p = (leb-true L maxPayload (and-l (leb L maxPayload) (ltb n (8 + L)) p), ltb-true n (8 + L) (and-r (leb L maxPayload) (ltb n (8 + L)) p))
+
+held-i : (r : Receiver) → (8 ≤ r .state .pending → (lengthOf (r .work) ≤ maxPayload) × (r .state .pending < 8 + lengthOf (r .work))) → heldShape r ≡ true
+unfolding heldShape
+held-i r h = go (ltb (r .state .pending) 8) refl
+  where
+    n : ℕ
+    n = r .state .pending
+
+    L : ℕ
+    L = lengthOf (r .work)
+
+    go : (c : Bool) → ltb n 8 ≡ c → (c || leb L maxPayload && ltb n (8 + L)) ≡ true
+    go true q = refl
+    go false q =
+        let (a, b) = h (ltb-false n 8 q) in
+        and-i (leb L maxPayload) (ltb n (8 + L)) (le-leb L maxPayload a) (lt-ltb n (8 + L) b)
+
+-- a byte past the third leaves the length as it was
+pub length-later : (w : List ℕ) (n b : ℕ) → 3 ≤ n → lengthOf (set w n b) ≡ lengthOf w
+unfolding lengthOf
+length-later w n b h = rw (getD-set-other w n 0 b 0 (omega arith), getD-set-other w n 1 b 0 (omega arith), getD-set-other w n 2 b 0 (omega arith))
+
+-- ---- a frame that is not yet whole
+
+module _ (r : Receiver) (b : ℕ) (k : Ok r) (short : tooLong (put r b) ≡ false) (open′ : isWhole (put r b) ≡ false) where
+  n : ℕ
+  n = r .state .pending
+
+  L : ℕ
+  L = lengthOf (set (r .work) n b)
+
+  not-whole : suc n ≡ 8 + L → ⊥
+  unfolding isWhole put n L
+  not-whole = eqb-false (suc n) (8 + L) open′
+
+  not-long : suc n ≡ 8 → L ≤ maxPayload
+  unfolding tooLong put n L
+  not-long e = ltb-false maxPayload L (and-no (eqb (suc n) 8) (ltb maxPayload L) short (eq-eqb (suc n) 8 e))
+
+  later : 8 ≤ suc n → (L ≤ maxPayload) × (suc n < 8 + L)
+  unfolding n L
+  later h = go (eqb (suc n) 8) refl
+    where
+      go : (c : Bool) → eqb (suc n) 8 ≡ c → (L ≤ maxPayload) × (suc n < 8 + L)
+      go true e =
+          let e′ : suc n ≡ 8 = eqb-true (suc n) 8 e in
+          let l : L ≤ maxPayload = not-long e′ in
+          (l, omega (arith, not-whole))
+      go false e =
+          let ne : suc n ≡ 8 → ⊥ = eqb-false (suc n) 8 e in
+          let h8 : 8 ≤ n = omega arith in
+          let q : L ≡ lengthOf (r .work) = length-later (r .work) n b (omega arith) in
+          let (a, c) = held-e r (k .held) h8 in
+          (omega arith, omega (arith, not-whole))
+
+  pub still-open : Ok (put r b)
+  unfolding put n L
+  still-open = record {
+    work = rw length-set (k .work);
+    count = k .count;
+    pending = below (leb 8 (suc n)) refl;
+    slots = k .slots;
+    dead = k .dead;
+    held = held-i (put r b) later;
+  }
+    where
+      below : (c : Bool) → leb 8 (suc n) ≡ c → suc n < frameArea
+      below true e = let (a, c) = later (leb-true 8 (suc n) e) in omega arith
+      below false e = omega (arith, leb-false 8 (suc n) e)
+
+-- ---- a whole frame
+
+-- a slot that is in a phase other than free is not free
+pub used : (p : Phase) (x : Slot) → eqb (code p) 0 ≡ false → inPhase p x ≡ true → inPhase Free x ≡ false
+unfolding isPhase code
+used p x n e = ne-eqb (code (x .phase)) 0 (λ q. eqb-false (code p) 0 n (sym (eqb-true (code (x .phase)) (code p) e) ∙ q))
+
+command-fits : (id n : ℕ) (m d : Bool) → isEven id ≡ false → n ≤ maxCommand
+    → slotFits (record { id = id; phase = cond m Collecting (cond d Waiting Running); databit = d; length = cond m n 0 }) ≡ true
+unfolding slotFits
+command-fits id n true d e l = and-i (not (isEven id)) (leb n maxCommand) (no-is (isEven id) e) (le-leb n maxCommand l)
+command-fits id n false true e l = and-i (not (isEven id) && true) true (and-i (not (isEven id)) true (no-is (isEven id) e) refl) refl
+command-fits id n false false e l = and-i (not (isEven id)) true (no-is (isEven id) e) refl
+
+running-fits : (id n : ℕ) (p : Phase) (d : Bool) → slotFits (record { id = id; phase = p; databit = d; length = n }) ≡ true → eqb (code p) 2 ≡ true
+    → slotFits (record { id = id; phase = Running; databit = d; length = n }) ≡ true
+unfolding slotFits code
+running-fits id n Free d e w = absurd (false≢true w)
+running-fits id n Collecting d e w = absurd (false≢true w)
+running-fits id n Running d e w = e
+running-fits id n Waiting d e w =
+    and-i (not (isEven id)) (eqb n 0) (and-l (not (isEven id)) d (and-l (not (isEven id) && d) (eqb n 0) e)) (and-r (not (isEven id) && d) (eqb n 0) e)
+
+-- a waiting slot after a data frame fits, and its id, if active, is still its own
+data-fits : (x : Slot) (l : Bool) → slotFits x ≡ true → inPhase Waiting x ≡ true → (slotFits (cond l (enter Running x) x) ≡ true) × (isId (cond l (enter Running x) x .id) x ≡ true)
+unfolding isPhase code enter
+data-fits x true e w = (running-fits (x .id) (x .length) (x .phase) (x .databit) e w, of-id x (used Waiting x refl w))
+data-fits x false e w = (e, of-id x (used Waiting x refl w))
+
+module _ (s : Channel) (f : Frame) (w : List ℕ) (wide : workArea ≤ length w) (count : length (s .slots) ≡ slotCount) (fit : slotsFit (s .slots) ≡ true) where
+  -- a command frame that passed 20, 21 and 23 has a slot, and room in the slot's part
+  abbrev pub Room : Type 0
+  Room = (target s f < slotCount) × (commandLength s f ≤ maxCommand)
+
+  pub room : (n : ℕ) → precedes rules 20 n ≡ true → precedes rules 21 n ≡ true → precedes rules 23 n ≡ true → isCommand f ≡ true → firstBroken rules f (viewOf s f w) ≡ n → Room
+  unfolding rules target slotAt code viewOf
+  room n a20 a21 a23 c e = (place (isNew f) refl, ltb-false maxCommand (commandLength s f) (and-no (isCommand f) (ltb maxCommand (commandLength s f)) (passed f (viewOf s f w) rules 23 n a23 e) c))
+    where
+      place : (t : Bool) → isNew f ≡ t → cond t (lowestFree s) (placeOf s (f .request)) < slotCount
+      place true q =
+          let l : lowestFree s < length (s .slots) =
+          leb-false (length (s .slots)) (lowestFree s) (and-no (isCommand f && isNew f) (leb (length (s .slots)) (lowestFree s)) (passed f (viewOf s f w) rules 20 n a20 e) (and-i (isCommand f) (isNew f) c q)) in
+          omega (arith, count)
+      place false q =
+          let p : inPhase Collecting (slotOf s (f .request)) ≡ true =
+          no-not (inPhase Collecting (slotOf s (f .request)))
+          (and-no (isCommand f && not (isNew f)) (not (inPhase Collecting (slotOf s (f .request)))) (passed f (viewOf s f w) rules 21 n a21 e) (and-i (isCommand f) (not (isNew f)) c (no-is (isNew f) q))) in
+          let l : placeOf s (f .request) < length (s .slots) = inside (s .slots) (placeOf s (f .request)) (used Collecting (slotOf s (f .request)) refl p) in
+          omega (arith, count)
+
+  placed-wide : workArea ≤ length (placed s f w)
+  unfolding placed
+  placed-wide = rw length-write wide
+
+  -- ---- refused
+
+  pub refused-ok : (n : ℕ) (v : List ℕ) → deadFits n ≡ true → workArea ≤ length v → Ok (refused n s v .next)
+  unfolding refused heldShape
+  refused-ok n v d l = record { work = l; count = count; pending = omega arith; slots = fit; dead = d; held = refl }
+
+  refused-wide : (n : ℕ) → workArea ≤ length (refusedWork n s f w)
+  unfolding refusedWork
+  refused-wide n = by-cond (λ v. workArea ≤ length v) (leb 24 n && leb n 26) (placed s f w) w (λ _. placed-wide) (λ _. wide)
+
+  dead-fits : (n : ℕ) → firstBroken rules f (viewOf s f w) ≡ suc n → deadFits (suc n) ≡ true
+  unfolding deadFits rules viewOf
+  dead-fits n e =
+      let (a, b) = in-range f (viewOf s f w) rules 11 29 n refl e in
+      or-r (eqb (suc n) 0) (leb 11 (suc n) && leb (suc n) 29) (and-i (leb 11 (suc n)) (leb (suc n) 29) (le-leb 11 (suc n) a) (le-leb (suc n) 29 b))
+
+  -- ---- accepted
+
+  module _ (e : firstBroken rules f (viewOf s f w) ≡ 0) where
+    odd : isEven (f .request) ≡ false
+    unfolding rules viewOf
+    odd = passed f (viewOf s f w) rules 12 0 refl e
+
+    -- the frame's id, if it is active, is the id of the command's slot
+    mine : isCommand f ≡ true → idIn (f .request) (s .slots) ≡ true → isId (f .request) (getD (s .slots) (target s f) freeSlot) ≡ true
+    unfolding target rules slotAt placeOf viewOf
+    mine c h = go (isNew f) refl
+      where
+        at : isId (f .request) (getD (s .slots) (placeOf s (f .request)) freeSlot) ≡ true
+        at = found (f .request) (s .slots) h
+
+        go : (t : Bool) → isNew f ≡ t → isId (f .request) (getD (s .slots) (cond t (lowestFree s) (placeOf s (f .request))) freeSlot) ≡ true
+        go true q =
+            clash (no-not (inPhase Free (slotOf s (f .request)))
+            (and-no (isCommand f && isNew f) (not (inPhase Free (slotOf s (f .request)))) (passed f (viewOf s f w) rules 19 0 refl e) (and-i (isCommand f) (isNew f) c q)))
+            (same-id (f .request) (getD (s .slots) (placeOf s (f .request)) freeSlot) at .0)
+        go false q = at
+
+    pub waits : isType 2 f ≡ true → inPhase Waiting (slotOf s (f .request)) ≡ true
+    unfolding rules viewOf
+    waits t = no-not (inPhase Waiting (slotOf s (f .request))) (and-no (isType 2 f) (not (inPhase Waiting (slotOf s (f .request)))) (passed f (viewOf s f w) rules 27 0 refl e) t)
+
+    slots-fit : slotsFit (slotsAfter s f) ≡ true
+    unfolding slotsAfter commandSlot dataSlot rules slotAt viewOf
+    slots-fit =
+        by-cond (λ l. slotsFit l ≡ true) (isCommand f) (set (s .slots) (target s f) (commandSlot s f))
+        (cond (isType 2 f) (set (s .slots) (placeOf s (f .request)) (dataSlot (slotOf s (f .request)) f)) (s .slots))
+        (λ c. set-fits (s .slots) (target s f) (commandSlot s f) fit
+        (command-fits (f .request) (commandLength s f) (isMore f) (dataFollows f) odd (room 0 refl refl refl c e .1)) (λ u k. mine c k))
+        (λ _. by-cond (λ l. slotsFit l ≡ true) (isType 2 f) (set (s .slots) (placeOf s (f .request)) (dataSlot (slotOf s (f .request)) f)) (s .slots)
+        (λ t. let d = data-fits (slotOf s (f .request)) (isLast f) (each-fits (s .slots) (placeOf s (f .request)) fit) (waits t) in
+        set-fits (s .slots) (placeOf s (f .request)) (dataSlot (slotOf s (f .request)) f) fit (d .0) (λ u k. d .1))
+        (λ _. fit))
+
+    slots-count : length (slotsAfter s f) ≡ slotCount
+    unfolding slotsAfter
+    slots-count =
+        by-cond (λ l. length l ≡ slotCount) (isCommand f) (set (s .slots) (target s f) (commandSlot s f))
+        (cond (isType 2 f) (set (s .slots) (placeOf s (f .request)) (dataSlot (slotOf s (f .request)) f)) (s .slots))
+        (λ _. rw length-set count)
+        (λ _. by-cond (λ l. length l ≡ slotCount) (isType 2 f) (set (s .slots) (placeOf s (f .request)) (dataSlot (slotOf s (f .request)) f)) (s .slots)
+        (λ _. rw length-set count) (λ _. count))
+
+    accepted-wide : workArea ≤ length (cond (isCommand f) (placed s f w) w)
+    accepted-wide = by-cond (λ v. workArea ≤ length v) (isCommand f) (placed s f w) w (λ _. placed-wide) (λ _. wide)
+
+    pub accepted-ok : s .dead ≡ 0 → Ok (accepted s f w .next)
+    unfolding accepted heldShape deadFits
+    accepted-ok d = record { work = accepted-wide; count = slots-count; pending = omega arith; slots = slots-fit; dead = rw d; held = refl }
+
+    -- the record is no longer than the longest
+    pub record-bound : length (f .payload) ≤ maxPayload → length (recordWith f (command s f w)) ≤ longestRecord
+    unfolding recordWith recordOf command rules commandLength viewOf
+    record-bound l =
+        by-cond (λ v. length v ≤ longestRecord) (isCommand f && not (isMore f)) (recordOf 1 (two (f .request) ++ bit (dataFollows f) ∷ command s f w))
+        (cond (isType 2 f) (recordOf 2 (two (f .request) ++ bit (isLast f) ∷ f .payload)) [])
+        (λ c.
+        let a : slotAt s (target s f) .length + length (f .payload) ≤ maxCommand = room 0 refl refl refl (and-l (isCommand f) (not (isMore f)) c) e .1 in
+        let held : List ℕ = drop (partStart (target s f)) w in
+        omega (arith, length-append (take (slotAt s (target s f) .length) held) (f .payload), length-take (slotAt s (target s f) .length) held))
+        (λ _. by-cond (λ v. length v ≤ longestRecord) (isType 2 f) (recordOf 2 (two (f .request) ++ bit (isLast f) ∷ f .payload)) [] (λ _. omega arith) (λ _. omega arith))
+
+  judge-ok : s .dead ≡ 0 → Ok (judge s f w .next)
+  unfolding judge
+  judge-ok d = go (firstBroken rules f (viewOf s f w)) refl
+    where
+      go : (n : ℕ) → firstBroken rules f (viewOf s f w) ≡ n → Ok (judge s f w .next)
+      go zero e = rw (e, judge) (accepted-ok e d)
+      go (suc n) e = rw (e, judge) (refused-ok (suc n) (refusedWork (suc n) s f w) (dead-fits n e) (refused-wide (suc n)))
+
+  judge-bound : length (f .payload) ≤ maxPayload → length (judge s f w .adds) ≤ longestRecord
+  unfolding judge refused accepted
+  judge-bound l = go (firstBroken rules f (viewOf s f w)) refl
+    where
+      go : (n : ℕ) → firstBroken rules f (viewOf s f w) ≡ n → length (judge s f w .adds) ≤ longestRecord
+      go zero e = rw (e, judge) (record-bound e l)
+      go (suc n) e = rw (e, judge) (omega arith)
+
+-- ---- one byte
+
+eleven : deadFits 11 ≡ true
+unfolding deadFits
+eleven = refl
+
+module _ (r : Receiver) (b : ℕ) (k : Ok r) where
+  w : List ℕ
+  w = set (r .work) (r .state .pending) b
+
+  wide : workArea ≤ length w
+  unfolding w
+  wide = rw length-set (k .work)
+
+  -- a frame that is whole passed 11
+  whole-length : tooLong (put r b) ≡ false → isWhole (put r b) ≡ true → lengthOf w ≤ maxPayload
+  unfolding w tooLong isWhole put
+  whole-length short whole = go (eqb (suc n) 8) refl
+    where
+      n : ℕ
+      n = r .state .pending
+
+      L : ℕ
+      L = lengthOf w
+
+      go : (c : Bool) → eqb (suc n) 8 ≡ c → L ≤ maxPayload
+      go true e = ltb-false maxPayload L (and-no (eqb (suc n) 8) (ltb maxPayload L) short e)
+      go false e =
+          let q : suc n ≡ 8 + L = eqb-true (suc n) (8 + L) whole in
+          let ne : suc n ≡ 8 → ⊥ = eqb-false (suc n) 8 e in
+          let h8 : 8 ≤ n = omega arith in
+          let same : L ≡ lengthOf (r .work) = length-later (r .work) n b (omega arith) in
+          omega (arith, held-e r (k .held) h8 .0)
+
+  payload-length : lengthOf w ≤ maxPayload → length (frameOf w .payload) ≤ maxPayload
+  unfolding frameOf
+  payload-length l = omega (arith, length-take (lengthOf w) (drop 8 w))
+
+  pub counted-ok : r .state .dead ≡ 0 → (Ok (counted (put r b) .next)) × (length (counted (put r b) .adds) ≤ longestRecord)
+  unfolding counted w put refused
+  counted-ok d = long (tooLong (put r b)) refl
+    where
+      p : Receiver
+      p = put r b
+
+      Fine : Type 0
+      Fine = (Ok (counted p .next)) × (length (counted p .adds) ≤ longestRecord)
+
+      done : (t : Bool) → tooLong p ≡ false → isWhole p ≡ t → Fine
+      done true a h = rw (a, h, counted)
+          (judge-ok (p .state) (frameOf w) w wide (k .count) (k .slots) d, judge-bound (p .state) (frameOf w) w wide (k .count) (k .slots) (payload-length (whole-length a h)))
+      done false a h = rw (a, h, counted) (still-open r b k a h, omega arith)
+
+      long : (t : Bool) → tooLong p ≡ t → Fine
+      long true a = rw (a, counted) (refused-ok (p .state) (frameOf w) w wide (k .count) (k .slots) 11 w eleven wide, omega arith)
+      long false a = done (isWhole p) a refl
+
+  pub take-ok : (Ok (takeByte r b .next)) × (length (takeByte r b .adds) ≤ longestRecord)
+  unfolding takeByte
+  take-ok = go (r .state .dead) refl
+    where
+      go : (n : ℕ) → r .state .dead ≡ n → (Ok (takeByte r b .next)) × (length (takeByte r b .adds) ≤ longestRecord)
+      go zero e = rw (e, takeByte) (counted-ok e)
+      go (suc n) e = rw (e, takeByte) (k, omega arith)
+
+-- a byte that does not close its frame adds no record
+pub quiet : (r : Receiver) (b : ℕ) → isWhole (put r b) ≡ false → takeByte r b .adds ≡ []
+unfolding takeByte counted refused
+quiet r b e = go (r .state .dead) (tooLong (put r b)) refl refl
+  where
+    go : (n : ℕ) (t : Bool) → r .state .dead ≡ n → tooLong (put r b) ≡ t → takeByte r b .adds ≡ []
+    go zero true d l = rw (d, l, takeByte, counted)
+    go zero false d l = rw (d, l, e, takeByte, counted)
+    go (suc n) t d l = rw (d, takeByte)
+
+-- ---- finish
+
+freed-ok : (r : Receiver) (id : ℕ) → Ok r → Ok (record { state = freed (r .state) id; work = r .work })
+unfolding freed heldShape slotFits isPhase code
+freed-ok r id k = record {
+  work = k .work;
+  count = rw length-set (k .count);
+  pending = k .pending;
+  slots = set-fits (r .state .slots) (placeOf (r .state) id) freeSlot (k .slots) refl (λ u h. clash refl u);
+  dead = k .dead;
+  held = k .held;
+}
+
+pub finish-ok : (r : Receiver) (id : ℕ) → Ok r → Ok (finish r id .next)
+unfolding finish finishState
+finish-ok r id k = go (r .state .dead) (inPhase Running (slotOf (r .state) id)) refl refl
+  where
+    go : (n : ℕ) (t : Bool) → r .state .dead ≡ n → inPhase Running (slotOf (r .state) id) ≡ t → Ok (finish r id .next)
+    go zero true d t = rw (d, t, finishState) (freed-ok r id k)
+    go zero false d t = rw (d, t, finishState) k
+    go (suc n) t d l = rw (d, finishState) k

@@ -1,0 +1,36 @@
+-- A request by itself: what its own frames and finishes make of it. Nothing here knows of slots or of a work area.
+use Prim.Native.Nat.{ℕ}
+use mathlib.Core.Bool.{Bool, false, cond}
+use mathlib.Core.List.{List, [], _++_}
+use lib.Dec.{eqb}
+use Rattle.requests.specs.declared.Phase.{Phase}
+use Rattle.requests.specs.declared.Phase.the-variants.{Free, Collecting, Waiting, Running}
+use Rattle.frame.specs.Frame.{Frame, flag}
+use Rattle.requests.specs.Phases.{code}
+
+-- a frame of type 1 or 2 without its stream id and stream flags, or a finish
+pub data Item : Type 0 where
+  part : ℕ → ℕ → List ℕ → Item
+  ending : Item
+
+unfoldable pub itemOf : Frame → Item
+itemOf f = part (f .type) (f .flags) (f .payload)
+
+-- a request's phase, data bit and command bytes so far
+pub record Request : Type 0 where
+  pub phase : Phase
+  pub databit : Bool
+  pub bytes : List ℕ
+
+unfoldable pub idle : Request
+idle = record { phase = Free; databit = false; bytes = [] }
+
+-- what an item does to its request
+unfoldable pub moved : Request → Item → Request
+moved q (part type flags payload) =
+    cond (eqb type 1)
+    (cond (flag 0x04 flags)
+    (record { phase = Collecting; databit = flag 0x08 flags; bytes = q .bytes ++ payload })
+    (record { phase = cond (flag 0x08 flags) Waiting Running; databit = flag 0x08 flags; bytes = [] }))
+    (cond (eqb flags 0x02) (record { phase = Running; databit = q .databit; bytes = q .bytes }) q)
+moved q ending = cond (eqb (code (q .phase)) 3) idle q

@@ -1,0 +1,68 @@
+-- A frame: the numbers of its header, its flags, and its payload, as document 01, "Frame header", states them.
+-- These are definitions: they assume nothing.
+use Prim.Native.Nat.{ℕ, _+_, _*_, _/_, _%_}
+use mathlib.Core.Bool.{Bool, cond, _&&_, _||_, not}
+use mathlib.Core.List.{List}
+use lib.ListN.{take, drop, getD}
+use lib.Dec.{eqb}
+use Rattle.frame.specs.Header.{lengthOf}
+
+pub record Frame : Type 0 where
+  pub request : ℕ
+  pub stream : ℕ
+  pub streamFlags : ℕ
+  pub type : ℕ
+  pub flags : ℕ
+  pub payload : List ℕ
+
+-- byte k of the frame
+abbrev pub at : List ℕ → ℕ → ℕ
+at w k = getD w k 0
+
+-- the frame that stands at the front of a work area
+unfoldable pub frameOf : List ℕ → Frame
+frameOf w = record {
+  request = at w 3 + 256 * at w 4;
+  stream = at w 5;
+  streamFlags = at w 6;
+  type = at w 7 / 16;
+  flags = at w 7 % 16;
+  payload = take (lengthOf w) (drop 8 w);
+}
+
+-- a flag is set
+unfoldable pub flag : ℕ → ℕ → Bool
+flag value n = eqb (n / value % 2) 1
+
+unfoldable pub isEven : ℕ → Bool
+isEven n = eqb (n % 2) 0
+
+unfoldable pub begins : Frame → Bool
+begins f = flag 0x01 (f .streamFlags)
+
+unfoldable pub ends : Frame → Bool
+ends f = flag 0x02 (f .streamFlags)
+
+unfoldable pub isType : ℕ → Frame → Bool
+isType t f = eqb (f .type) t
+
+-- of a command frame
+unfoldable pub isNew : Frame → Bool
+isNew f = flag 0x01 (f .flags)
+
+unfoldable pub isMore : Frame → Bool
+isMore f = flag 0x04 (f .flags)
+
+unfoldable pub dataFollows : Frame → Bool
+dataFollows f = flag 0x08 (f .flags)
+
+-- of a data frame
+unfoldable pub isLast : Frame → Bool
+isLast f = eqb (f .flags) 0x02
+
+-- 18: exactly one of new and continuation; more or last; 0x02
+unfoldable pub flagsFit : Frame → Bool
+flagsFit f =
+    cond (isType 1 f) (not (eqb (f .flags % 4) 0) && not (eqb (f .flags % 4) 3))
+    (cond (isType 2 f) (eqb (f .flags) 0x01 || eqb (f .flags) 0x02)
+    (eqb (f .flags) 0x02))

@@ -1,0 +1,17 @@
+-- The bytes of a record, as document 01, "Records", states them: body length (2, little-endian, body only), kind (2, little-endian), body.
+-- These are definitions: they assume nothing.
+use Prim.Native.Nat.{ℕ, _/_, _%_}
+use mathlib.Core.Bool.{Bool, true, false}
+use mathlib.Core.List.{List, [], _∷_, _++_}
+use lib.ListN.{length}
+
+-- a number in two bytes, the lower first
+abbrev pub two : ℕ → List ℕ
+two n = n % 256 ∷ n / 256 % 256 ∷ []
+
+unfoldable pub bit : Bool → ℕ
+bit true = 1
+bit false = 0
+
+unfoldable pub recordOf : ℕ → List ℕ → List ℕ
+recordOf kind body = two (length body) ++ two kind ++ body
