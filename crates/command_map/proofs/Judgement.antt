@@ -20,8 +20,8 @@ use Rattle.entries.specs.Entries.{all, any, isKeyed, entries, contents, hasKey,
 use Rattle.command_map.specs.declared.Checked.the-variants.{Command, NotCommand, DoubleKey}
 use Rattle.command_map.specs.declared.Judged.{Judged}
 use Rattle.command_map.specs.declared.Fields.{Fields}
-use Rattle.command_map.specs.CommandMap.{name-key, args-key, redirect-key, isName, isMap, isArgs, hasDouble, valueItem, allowed, valueUnder, argsDouble, double, mapOf}
-use Rattle.command_map.specs.Walk.{firstBytes, firstMap, noneJudged, unallowed, withName, withKeys, withRedirect, withArgs, judge, Walked, commandOf, alsoDouble, mapChecked}
+use Rattle.command_map.specs.CommandMap.{name-key, args-key, redirect-key, isName, isMap, isArgs, hasDouble, valueItem, allowed, valueUnder, argsDouble, double, mapOf, mapChecked}
+use Rattle.command_map.specs.Walk.{firstBytes, firstMap, noneJudged, unallowed, withName, withKeys, withRedirect, withArgs, judge, Walked, commandOf, alsoDouble}
 
 -- a value of each kind
 name-bytes : (x : Item) → isName x ≡ true → (start : ℕ) × (stop : ℕ) × (x ≡ Bytes start stop)

@@ -6,12 +6,12 @@ use mathlib.Core.Bool.{Bool, true, false, cond, _&&_, _||_}
 use lib.Dec.{leb}
 use Rattle.cbor.specs.declared.Item.{Item}
 use Rattle.cbor.specs.declared.Item.the-variants.{Refused}
-use Rattle.cbor.specs.Cbor.{ifBytes, ifMap, itemAt}
+use Rattle.cbor.specs.Cbor.{ifBytes, ifMap, itemAt, repeat, pair, value, whole}
 use Rattle.keys.specs.Keys.{twice}
 use Rattle.entries.specs.declared.Entry.{Entry}
 use Rattle.entries.specs.Entries.{all, any, ifKeyed, isKeyed, entries, contents, hasKey, find}
 use Rattle.command_map.specs.declared.Checked.{Checked}
-use Rattle.command_map.specs.declared.Checked.the-variants.{Command, NotCommand, DoubleKey}
+use Rattle.command_map.specs.declared.Checked.the-variants.{Command, NotItem, NotCommand, DoubleKey}
 
 -- `name`, `args`, `redirect`
 abbrev pub name-key : List ℕ
@@ -69,3 +69,7 @@ module _ (s : List ℕ) where
       (ifBytes (valueUnder name-key es) (λ start stop.
       ifMap (valueUnder args-key es) (λ count first.
       cond (double es) DoubleKey (Command start stop count first)) NotCommand) NotCommand) NotCommand
+
+-- the check of bytes that start with the head of a map of n entries, whose first stands at a position
+unfoldable pub mapChecked : List ℕ → ℕ → ℕ → Checked
+mapChecked s n at = cond (whole s (repeat n (pair s (value s 7)) at)) (mapOf s (entries s 7 n at)) NotItem

@@ -7,7 +7,7 @@ use mathlib.Core.Bool.{Bool, true, false, cond}
 use lib.ListN.{length}
 use Rattle.cbor.specs.declared.Item.{Item}
 use Rattle.cbor.specs.declared.Item.the-variants.{Refused}
-use Rattle.cbor.specs.Cbor.{ifBytes, ifMap, repeat, pair, value, whole}
+use Rattle.cbor.specs.Cbor.{ifBytes, ifMap, repeat, pair, value}
 use Rattle.entries.specs.declared.Entry.{Entry}
 use Rattle.entries.specs.declared.Keys.{Keys}
 use Rattle.entries.specs.declared.Keys.the-variants.{Single, Double, Others}
@@ -17,7 +17,7 @@ use Rattle.command_map.specs.declared.Judged.{Judged}
 use Rattle.command_map.specs.declared.Fields.{Fields}
 use Rattle.command_map.specs.declared.Checked.{Checked}
 use Rattle.command_map.specs.declared.Checked.the-variants.{Command, NotItem, NotCommand, DoubleKey}
-use Rattle.command_map.specs.CommandMap.{name-key, args-key, redirect-key, isName, isMap, valueItem, mapOf}
+use Rattle.command_map.specs.CommandMap.{name-key, args-key, redirect-key, isName, isMap, valueItem}
 
 -- the first of two items that is a byte string, or a map
 abbrev pub firstBytes : Item → Item → Item
@@ -78,7 +78,3 @@ alsoDouble t (Command start stop count first) = cond t DoubleKey (Command start 
 alsoDouble t NotItem = NotItem
 alsoDouble t NotCommand = NotCommand
 alsoDouble t DoubleKey = DoubleKey
-
--- the check of bytes that start with the head of a map of n entries, whose first stands at a position
-unfoldable pub mapChecked : List ℕ → ℕ → ℕ → Checked
-mapChecked s n at = cond (whole s (repeat n (pair s (value s 7)) at)) (mapOf s (entries s 7 n at)) NotItem

@@ -5,8 +5,8 @@ use cbor::Next;
 use entries::Entry;
 use entries::Keys;
 ghost use mathlib.Core.Path.{_≡_};
-ghost use Rattle.command_map.specs.CommandMap.{isName, valueItem};
-ghost use Rattle.command_map.specs.Walk.{firstBytes, firstMap, unallowed, withName, withKeys, withArgs, withRedirect, judge, Walked, commandOf, mapChecked};
+ghost use Rattle.command_map.specs.CommandMap.{isName, valueItem, mapChecked};
+ghost use Rattle.command_map.specs.Walk.{firstBytes, firstMap, unallowed, withName, withKeys, withArgs, withRedirect, judge, Walked, commandOf};
 
 // The answer of the check: where the content of the command's name starts and stops, how many arguments it has and where the first
 // stands. Or 24, no item of the subset; 25, no command map; 26, a key twice.

@@ -4,7 +4,7 @@ use borrow.Author.Needs.{needs}
 use Rattle.cbor.specs.Cbor.{isItem, value}
 use Rattle.cbor.proofs.Folds.{not-map}
 use Rattle.command.specs.Command.{checked}
-use Rattle.command_map.specs.Walk.{mapChecked}
+use Rattle.command_map.specs.CommandMap.{mapChecked}
 use Rattle.command.proofs.check.Statement.{statement}
 use Rattle.command.proofs.check.Tie as tie
 

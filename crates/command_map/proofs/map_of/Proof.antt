@@ -4,7 +4,7 @@ use mathlib.Core.Path.{sym, _∙_}
 use borrow.Author.Needs.{needs}
 use borrow.Author.Tests.{ne-eqb}
 use Rattle.entries.proofs.RowLaws.{row-answers}
-use Rattle.command_map.specs.Walk.{mapChecked}
+use Rattle.command_map.specs.CommandMap.{mapChecked}
 use Rattle.command_map.proofs.Answers.{still-refused}
 use Rattle.command_map.proofs.Judgement.{map-whole}
 use Rattle.command_map.proofs.map_of.Statement.{statement}
