@@ -10,9 +10,8 @@ use borrow.Author.Tests.{eqb-true, eqb-false, lt-leb}
 use Rattle.requests.specs.declared.Phase.the-variants.{Free}
 use Rattle.requests.specs.declared.Slot.{Slot}
 use Rattle.frame.specs.Records.{bit}
-use Rattle.channel.specs.Receiver.{inPhase, isId, firstSlot}
+use Rattle.requests.specs.Slots.{inPhase, isId, firstSlot, idIn, slotsFit}
 use Rattle.requests.specs.Phases.{freeSlot, isPhase, code}
-use Rattle.channel.specs.Channel.{idIn, slotsFit}
 use Rattle.channel.specs.History.{howMany}
 use Rattle.channel.proofs.Bools.{fails, clash}
 use Rattle.channel.proofs.SlotLaws.{found, none-there, tail-fits, head-apart, apart-e, same-id, of-id, in-tail, in-head}

@@ -17,7 +17,8 @@ use Rattle.frame.specs.Header.{lengthOf}
 use Rattle.channel.specs.Request.{idle}
 use Rattle.requests.specs.Phases.{isPhase, code}
 use Rattle.channel.specs.Receiver
-use Rattle.channel.specs.Receiver.{Receiver, freshState, refused, accepted, judge, put, isWhole, tooLong, counted, takeByte, finishState, inPhase, slotOf, freed, viewOf}
+use Rattle.channel.specs.Receiver.{Receiver, freshState, refused, accepted, judge, put, isWhole, tooLong, counted, takeByte, finishState, slotOf, freed, viewOf}
+use Rattle.requests.specs.Slots.{inPhase}
 use Rattle.channel.specs.Channel.{channel}
 use Rattle.channel.specs.Demands.{freshOn, Agree, Fed, nil, bytes, ends, Demand2, Demand2Session, NextFrame}
 use Rattle.channel.specs.History.{History, finish, streamOpen, itemsOf, stands, request, isIn, refusalOf, answerTo, isLong, isAll, Past, nothing, stopped, frameAfter, bytesAfter, byteAfter, finishAfter, told, Sent, none, byte, call, given}

@@ -18,9 +18,9 @@ use Rattle.channel.specs.Rules.{checkOf, recordWith, View, isCommand, ju
 use Rattle.frame.specs.Frame.{Frame, isEven, begins, ends, isType, isNew, isMore, dataFollows, isLast}
 use Rattle.frame.specs.Records.{recordOf, two, bit}
 use Rattle.channel.specs.Receiver
-use Rattle.channel.specs.Receiver.{Receiver, inPhase, slotAt, placeOf, slotOf, lowestFree, target, commandLength, streamsAfter, accepted, put, freed, viewOf}
+use Rattle.channel.specs.Receiver.{Receiver, slotAt, placeOf, slotOf, lowestFree, target, commandLength, streamsAfter, accepted, put, freed, viewOf}
+use Rattle.requests.specs.Slots.{inPhase, slotFits, idIn, slotsFit}
 use Rattle.requests.specs.Phases.{freeSlot, isPhase, code}
-use Rattle.channel.specs.Channel.{slotFits, idIn, slotsFit}
 use Rattle.channel.specs.History
 use Rattle.channel.specs.History.{History, frame, finish, streamOpen, isOf, itemsOf, stands, request, isIn, howMany, idCount, activeIds, own, refusalOf, recordFor, answerTo, viewIn}
 use Rattle.channel.specs.Request.{ending, idle, itemOf, moved, Request}

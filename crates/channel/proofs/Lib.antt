@@ -6,6 +6,7 @@ pub mod ReceiverLaws
 pub mod PlaceLaws
 pub mod SeenLaws
 pub mod Demand3
+mod Finish
 pub mod FrameLaws
 pub mod CountLaws
 pub mod HistoryLaws

@@ -10,7 +10,7 @@ use lib.ListN.{length, take, drop, getD, set, length-take}
 use lib.Seq.{paste, take-nil, take-take, take-append-le, drop-append-le, take-length, take-paste, drop-paste, drop-drop}
 use Rattle.requests.specs.declared.Slot.{Slot}
 use Rattle.channel.specs.Bytes.{write}
-use Rattle.channel.specs.Receiver.{firstSlot}
+use Rattle.requests.specs.Slots.{firstSlot}
 use Rattle.requests.specs.Phases.{freeSlot}
 
 -- ---- parts

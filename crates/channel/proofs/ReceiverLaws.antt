@@ -16,9 +16,10 @@ use Rattle.frame.specs.Limits.{maxPayload, maxCommand, slotCount, longestRecord
 use Rattle.frame.specs.Frame.{Frame, frameOf, isEven, isType, isNew, isMore, dataFollows, isLast}
 use Rattle.frame.specs.Header.{lengthOf}
 use Rattle.frame.specs.Records.{recordOf, two, bit}
-use Rattle.channel.specs.Receiver.{Receiver, inPhase, isId, slotAt, placeOf, slotOf, lowestFree, target, commandLength, placed, command, refused, refusedWork, commandSlot, enter, dataSlot, slotsAfter, accepted, judge, put, isWhole, tooLong, counted, takeByte, freed, finishState, finish, viewOf}
+use Rattle.channel.specs.Receiver.{Receiver, slotAt, placeOf, slotOf, lowestFree, target, commandLength, placed, command, refused, refusedWork, commandSlot, enter, dataSlot, slotsAfter, accepted, judge, put, isWhole, tooLong, counted, takeByte, freed, finishState, finish, viewOf}
+use Rattle.requests.specs.Slots.{inPhase, isId, slotFits, idIn, slotsFit}
 use Rattle.requests.specs.Phases.{freeSlot, isPhase, code}
-use Rattle.channel.specs.Channel.{slotFits, idIn, slotsFit, deadFits, plainShape, heldShape, shape}
+use Rattle.channel.specs.Channel.{deadFits, plainShape, heldShape, shape}
 use Rattle.channel.specs.Rules.{recordWith, firstBroken, isCommand, rules}
 use Rattle.channel.proofs.Bools.{and-l, and-r, and-i, and-no, or-r, no-not, no-is, clash, by-cond}
 use Rattle.channel.proofs.SlotLaws.{found, inside, each-fits, set-fits, same-id, of-id}

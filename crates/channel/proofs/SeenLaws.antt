@@ -17,9 +17,10 @@ use Rattle.frame.specs.Limits.{maxCommand, slotCount, frameArea, workArea, part
 use Rattle.session.specs.Session.{Step, Reply}
 use Rattle.frame.specs.Frame.{Frame, isEven, isType, isNew, isMore, dataFollows, isLast}
 use Rattle.channel.specs.Demands.{freshOn}
-use Rattle.channel.specs.Receiver.{Receiver, freshState, inPhase, isId, firstSlot, slotAt, placeOf, slotOf, lowestFree, target, commandLength, placed, command, commandSlot, enter, dataSlot, slotsAfter, streamsAfter, accepted, put, counted, takeByte, freed, finishState, finish, viewOf}
+use Rattle.channel.specs.Receiver.{Receiver, freshState, slotAt, placeOf, slotOf, lowestFree, target, commandLength, placed, command, commandSlot, enter, dataSlot, slotsAfter, streamsAfter, accepted, put, counted, takeByte, freed, finishState, finish, viewOf}
+use Rattle.requests.specs.Slots.{inPhase, isId, firstSlot, slotFits, apart, slotsFit}
 use Rattle.requests.specs.Phases.{freeSlot, isPhase, code}
-use Rattle.channel.specs.Channel.{slotFits, apart, slotsFit, deadFits, heldShape}
+use Rattle.channel.specs.Channel.{deadFits, heldShape}
 use Rattle.channel.specs.Request.{ending, itemOf, Request, idle, moved}
 use Rattle.channel.specs.Rules.{firstBroken, isCommand, rules}
 use Rattle.channel.proofs.Bools.{and-r, and-i, and-no, no-not, no-is, fails, clash, by-cond}

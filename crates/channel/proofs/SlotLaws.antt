@@ -9,9 +9,8 @@ use lib.Dec.{eqb}
 use borrow.Author.Tests.{eqb-true, eq-eqb}
 use Rattle.requests.specs.declared.Phase.the-variants.{Free}
 use Rattle.requests.specs.declared.Slot.{Slot}
-use Rattle.channel.specs.Receiver.{inPhase, isId, firstSlot}
+use Rattle.requests.specs.Slots.{inPhase, isId, firstSlot, slotFits, idIn, apart, slotsFit}
 use Rattle.requests.specs.Phases.{freeSlot, isPhase, code}
-use Rattle.channel.specs.Channel.{slotFits, idIn, apart, slotsFit}
 use Rattle.channel.proofs.Bools.{and-l, and-r, and-i, or-l, or-r, not-no, no-is, fails, clash}
 
 -- the search finds a slot that passes the test, where the list has one

@@ -23,6 +23,7 @@ use Rattle.frame.specs.Frame
 use Rattle.frame.specs.Settings
 use Rattle.frame.specs.Records
 use Rattle.requests.specs.Phases
+use Rattle.requests.specs.Slots
 use Rattle.channel.specs.Request
 use Rattle.channel.specs.Rules
 use Rattle.channel.specs.Receiver
@@ -97,7 +98,7 @@ quick-is (bytes input n ∷ ls) r k = one-feed ls r input n k (λ q h. quick-is 
 quick-is (ends id ∷ ls) r k = rw (own-is channel keeps r id k) (ap (answers (Receiver.finish r id .number) []) (quick-is ls (Receiver.finish r id .next) (finish-ok r id k)))
 
 start-ok : (s : Start) → Ok (startOf s)
-unfolding startOf Receiver.freshState Channel.slotsFit Channel.slotFits Channel.apart Channel.idIn Receiver.isId Phases.isPhase Phases.code Channel.deadFits Channel.heldShape Frame.isEven
+unfolding startOf Receiver.freshState Slots.slotsFit Slots.slotFits Slots.apart Slots.idIn Slots.isId Phases.isPhase Phases.code Channel.deadFits Channel.heldShape Frame.isEven
 start-ok fresh = record { work = rw length-replicate (omega arith); count = refl; pending = omega arith; slots = refl; dead = refl; held = refl }
 start-ok waiting = record { work = rw length-replicate (omega arith); count = refl; pending = omega arith; slots = refl; dead = refl; held = refl }
 
@@ -116,7 +117,7 @@ fast-is (looks c key) = refl
 
 -- a line that names this one unfolds every definition of the receiver
 computes : Type 0
-unfolding Session.after Session.read Bytes.write Rules.checkOf Cbor.repeat Cbor.width Cbor.bigEndian Cbor.headValue Cbor.headOf Cbor.headAt Cbor.bytesAt Cbor.tagged Cbor.itemAt Cbor.key Cbor.pair Cbor.value Cbor.isItem Keys.part Keys.equal Keys.among Keys.twice Entries.all Entries.any Entries.entryAt Entries.entries Entries.contents Entries.find CommandMap.allowed CommandMap.valueUnder CommandMap.argsDouble CommandMap.double CommandMap.mapOf Command.checked Lookup.argumentAt Lookup.integerAt Header.lengthOf Frame.frameOf Frame.flag Frame.isEven Frame.begins Frame.ends Frame.isType Frame.isNew Frame.isMore Frame.dataFollows Frame.isLast Frame.flagsFit Settings.isIdentity Records.bit Records.recordOf Receiver.freshState Phases.code Phases.isPhase Receiver.firstSlot Receiver.slotAt Receiver.isId Receiver.placeOf Receiver.lowestFree Receiver.target Receiver.commandLength Receiver.placed Receiver.command Receiver.streamOpen Rules.isCommand Rules.judged Rules.rules Rules.firstBroken Receiver.viewOf Receiver.refused Receiver.refusedWork Receiver.commandSlot Receiver.enter Receiver.dataSlot Receiver.slotsAfter Receiver.streamsAfter Rules.recordWith Receiver.accepted Receiver.judge Receiver.put Receiver.isWhole Receiver.tooLong Receiver.counted Receiver.takeByte Receiver.freed Receiver.finishState Receiver.finish Traces.startOf Traces.answers Traces.table quick fast
+unfolding Session.after Session.read Bytes.write Rules.checkOf Cbor.repeat Cbor.width Cbor.bigEndian Cbor.headValue Cbor.headOf Cbor.headAt Cbor.bytesAt Cbor.tagged Cbor.itemAt Cbor.key Cbor.pair Cbor.value Cbor.isItem Keys.part Keys.equal Keys.among Keys.twice Entries.all Entries.any Entries.entryAt Entries.entries Entries.contents Entries.find CommandMap.allowed CommandMap.valueUnder CommandMap.argsDouble CommandMap.double CommandMap.mapOf Command.checked Lookup.argumentAt Lookup.integerAt Header.lengthOf Frame.frameOf Frame.flag Frame.isEven Frame.begins Frame.ends Frame.isType Frame.isNew Frame.isMore Frame.dataFollows Frame.isLast Frame.flagsFit Settings.isIdentity Records.bit Records.recordOf Receiver.freshState Phases.code Phases.isPhase Slots.firstSlot Receiver.slotAt Slots.isId Receiver.placeOf Receiver.lowestFree Receiver.target Receiver.commandLength Receiver.placed Receiver.command Receiver.streamOpen Rules.isCommand Rules.judged Rules.rules Rules.firstBroken Receiver.viewOf Receiver.refused Receiver.refusedWork Receiver.commandSlot Receiver.enter Receiver.dataSlot Receiver.slotsAfter Receiver.streamsAfter Rules.recordWith Receiver.accepted Receiver.judge Receiver.put Receiver.isWhole Receiver.tooLong Receiver.counted Receiver.takeByte Receiver.freed Receiver.finishState Receiver.finish Traces.startOf Traces.answers Traces.table quick fast
 computes = Unit {0}
 
 fast-holds : map (λ x. fast (x .trace)) table ≡ map (λ x. x .result) table

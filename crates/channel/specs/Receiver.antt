@@ -1,16 +1,17 @@
 -- The plain receiver of document 01: a state and a work area, one byte at a time.
 use Prim.Native.Nat.{ℕ, zero, suc, _+_, _/_}
 use mathlib.Core.Bool.{Bool, true, false, cond, _&&_, not}
-use mathlib.Core.List.{List, [], _∷_, _++_}
+use mathlib.Core.List.{List, [], _++_}
 use lib.ListN.{length, take, drop, getD, set, replicate}
 use lib.Dec.{leb, ltb, eqb}
 use Rattle.requests.specs.declared.Phase.{Phase}
 use Rattle.requests.specs.declared.Phase.the-variants.{Free, Collecting, Waiting, Running}
 use Rattle.requests.specs.declared.Slot.{Slot}
+use Rattle.requests.specs.Slots.{inPhase, firstSlot, isId}
 use Rattle.channel.specs.declared.Channel.{Channel}
 use Rattle.frame.specs.Limits.{maxPayload, slotCount, streamCount, partStart}
 use Rattle.session.specs.Session.{Step, Reply}
-use Rattle.requests.specs.Phases.{isPhase, freeSlot}
+use Rattle.requests.specs.Phases.{freeSlot}
 use Rattle.channel.specs.Rules.{View, isCommand, rules, firstBroken, recordWith}
 use Rattle.channel.specs.Bytes.{write}
 use Rattle.frame.specs.Frame.{Frame, frameOf, ends, isType, isNew, isMore, dataFollows, isLast}
@@ -26,20 +27,8 @@ pub record Receiver : Type 0 where
 unfoldable pub freshState : Channel
 freshState = record { dead = 0; pending = 0; slots = replicate slotCount freeSlot; streams = replicate streamCount false }
 
-abbrev pub inPhase : Phase → Slot → Bool
-inPhase p x = isPhase p (x .phase)
-
--- the place of the first slot that passes the test; the number of slots where none does
-unfoldable pub firstSlot : (Slot → Bool) → List Slot → ℕ
-firstSlot test [] = 0
-firstSlot test (x ∷ xs) = cond (test x) 0 (suc (firstSlot test xs))
-
 unfoldable pub slotAt : Channel → ℕ → Slot
 slotAt s i = getD (s .slots) i freeSlot
-
--- a used slot of that id
-unfoldable pub isId : ℕ → Slot → Bool
-isId id x = not (inPhase Free x) && eqb (x .id) id
 
 -- an active id's place and slot; a free slot where the id is not active
 unfoldable pub placeOf : Channel → ℕ → ℕ

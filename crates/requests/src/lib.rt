@@ -1,6 +1,9 @@
 // Requests: their phases, and the slots that hold them.
 ghost use mathlib.Core.Path.{_≡_};
-ghost use Rattle.requests.specs.Phases.{freeSlot};
+ghost use Rattle.frame.specs.Frame.{isEven};
+ghost use Rattle.requests.specs.Phases.{code, freeSlot};
+ghost use Rattle.requests.specs.Slots.{firstSlot, isId, meets, slotFits, idIn, apart, slotsFit};
+ghost use lib.ListN.{drop};
 
 // A request is collecting (its command isn't whole), waiting for data, or running. A free slot holds none.
 pub enum Phase {
@@ -18,7 +21,32 @@ pub struct Slot {
     pub length: usize,
 }
 
+// What is looked for among the slots: the used one of an id, or a free one.
+pub enum Want {
+    Used(u16),
+    Unused,
+}
+
+// The number of a phase: 0 free, 1 collecting, 2 waiting, 3 running.
+pub fn phase_code(p: Phase) -> u8
+    ensures { λ r. ⌜ r ≡ code p ⌝ }
+{
+    match p {
+        Phase::Free => 0,
+        Phase::Collecting => 1,
+        Phase::Waiting => 2,
+        Phase::Running => 3,
+    }
+}
+
+fn is_even(n: u16) -> bool
+    ensures { λ r. ⌜ r ≡ isEven n ⌝ }
+{
+    n % 2 == 0
+}
+
 impl Slot {
+    // A slot that holds no request.
     pub fn free() -> Slot
         ensures { λ r. ⌜ r ≡ freeSlot ⌝ }
     {
@@ -29,4 +57,124 @@ impl Slot {
             length: 0,
         }
     }
+
+    // Whether a used slot holds this id.
+    fn is_id(self, id: u16) -> bool
+        ensures { λ r. ⌜ r ≡ isId id self ⌝ }
+    {
+        let phase = self.phase;
+        if phase_code(phase) == 0 {
+            return false;
+        }
+        self.id == id
+    }
+
+    // What rule 3 asks of a slot by itself.
+    fn fits(self) -> bool
+        ensures { λ r. ⌜ r ≡ slotFits self ⌝ }
+    {
+        let phase = self.phase;
+        match phase {
+            Phase::Free => {
+                if self.id != 0 {
+                    return false;
+                }
+                if self.databit {
+                    return false;
+                }
+                self.length == 0
+            }
+            Phase::Collecting => {
+                if is_even(self.id) {
+                    return false;
+                }
+                self.length <= 2048
+            }
+            Phase::Waiting => {
+                if is_even(self.id) {
+                    return false;
+                }
+                if !self.databit {
+                    return false;
+                }
+                self.length == 0
+            }
+            Phase::Running => {
+                if is_even(self.id) {
+                    return false;
+                }
+                self.length == 0
+            }
+        }
+    }
+
+    // Whether no used slot from an index on holds the slot's id.
+    fn is_apart(self, slots: [Slot; 8], from: usize) -> bool
+        ensures { λ r. ⌜ r ≡ apart self (drop from slots) ⌝ }
+    {
+        let phase = self.phase;
+        if phase_code(phase) == 0 {
+            return true;
+        }
+        !id_in(slots, self.id, from)
+    }
+
+    // Whether the slot is what is looked for.
+    fn meets(self, w: Want) -> bool
+        ensures { λ r. ⌜ r ≡ meets w self ⌝ }
+    {
+        let phase = self.phase;
+        match w {
+            Want::Used(id) => self.is_id(id),
+            Want::Unused => phase_code(phase) == 0,
+        }
+    }
+}
+
+// The index of the first slot that is what is looked for, 8 where none is.
+pub fn find(slots: [Slot; 8], w: Want) -> usize
+    ensures { λ r. ⌜ r ≡ firstSlot (meets w) slots ⌝ }
+{
+    let mut i = 0;
+    while i < 8 {
+        let s = slots[i];
+        if s.meets(w) {
+            return i;
+        }
+        i += 1;
+    }
+    8
+}
+
+// Whether a used slot from an index on holds this id.
+fn id_in(slots: [Slot; 8], id: u16, from: usize) -> bool
+    ensures { λ r. ⌜ r ≡ idIn id (drop from slots) ⌝ }
+{
+    let mut i = from;
+    while i < 8 {
+        let s = slots[i];
+        if s.is_id(id) {
+            return true;
+        }
+        i += 1;
+    }
+    false
+}
+
+// What rule 3 asks of the slots: each fits by itself, and no two used ones hold one id.
+pub fn slots_fit(slots: [Slot; 8]) -> bool
+    ensures { λ r. ⌜ r ≡ slotsFit slots ⌝ }
+{
+    let mut i = 0;
+    while i < 8 {
+        let s = slots[i];
+        if !s.fits() {
+            return false;
+        }
+        i += 1;
+        if !s.is_apart(slots, i) {
+            return false;
+        }
+    }
+    true
 }

@@ -1,0 +1,53 @@
+-- Slots: which phase one is in, the first that passes a test, and what rule 3 asks of them.
+-- These are definitions: they assume nothing.
+use Prim.Native.Nat.{ℕ, suc}
+use mathlib.Core.Bool.{Bool, true, false, cond, _&&_, _||_, not}
+use mathlib.Core.List.{List, [], _∷_}
+use lib.Dec.{leb, eqb}
+use Rattle.frame.specs.Limits.{maxCommand}
+use Rattle.frame.specs.Frame.{isEven}
+use Rattle.requests.specs.declared.Phase.{Phase}
+use Rattle.requests.specs.declared.Phase.the-variants.{Free, Collecting, Waiting, Running}
+use Rattle.requests.specs.declared.Slot.{Slot}
+use Rattle.requests.specs.declared.Want.{Want}
+use Rattle.requests.specs.declared.Want.the-variants.{Used, Unused}
+use Rattle.requests.specs.Phases.{isPhase}
+
+abbrev pub inPhase : Phase → Slot → Bool
+inPhase p x = isPhase p (x .phase)
+
+-- the place of the first slot that passes the test; the number of slots where none does
+unfoldable pub firstSlot : (Slot → Bool) → List Slot → ℕ
+firstSlot test [] = 0
+firstSlot test (x ∷ xs) = cond (test x) 0 (suc (firstSlot test xs))
+
+-- a used slot of that id
+unfoldable pub isId : ℕ → Slot → Bool
+isId id x = not (inPhase Free x) && eqb (x .id) id
+
+-- what is looked for: a used slot of an id, or a free slot
+abbrev pub meets : Want → Slot → Bool
+meets (Used id) x = isId id x
+meets Unused x = inPhase Free x
+
+-- what a slot of each phase holds
+unfoldable pub slotFits : Slot → Bool
+slotFits x =
+    elim (x .phase) [
+      | Free ↦ eqb (x .id) 0 && not (x .databit) && eqb (x .length) 0
+      | Collecting ↦ not (isEven (x .id)) && leb (x .length) maxCommand
+      | Waiting ↦ not (isEven (x .id)) && x .databit && eqb (x .length) 0
+      | Running ↦ not (isEven (x .id)) && eqb (x .length) 0
+    ]
+
+unfoldable pub idIn : ℕ → List Slot → Bool
+idIn id [] = false
+idIn id (x ∷ xs) = isId id x || idIn id xs
+
+-- no used slot behind it has its id
+unfoldable pub apart : Slot → List Slot → Bool
+apart x xs = inPhase Free x || not (idIn (x .id) xs)
+
+unfoldable pub slotsFit : List Slot → Bool
+slotsFit [] = true
+slotsFit (x ∷ xs) = slotFits x && apart x xs && slotsFit xs
