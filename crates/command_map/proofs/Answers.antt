@@ -1,8 +1,8 @@
--- What is known of an answer that is no command.
+-- What a key that stands twice in the outer map, or none, does to an answer.
 -- Assumes nothing.
 use mathlib.Core.Path.{_≡_, refl}
 use mathlib.Core.List.{[], _∷_}
-use mathlib.Core.Bool.{Bool}
+use mathlib.Core.Bool.{Bool, false}
 use denote.Enum.Declared.{tagOf}
 use types.Run.{OneOf, miss}
 use Rattle.command_map.specs.declared.Checked.{Checked}
@@ -16,3 +16,10 @@ still-refused t (Command start stop count first) h = absurd (miss (1 ∷ 2 ∷ 3
 still-refused t NotItem h = refl
 still-refused t NotCommand h = refl
 still-refused t DoubleKey h = refl
+
+-- where no key stands twice the answer stays
+pub still-single : (c : Checked) → alsoDouble false c ≡ c
+still-single (Command start stop count first) = refl
+still-single NotItem = refl
+still-single NotCommand = refl
+still-single DoubleKey = refl
