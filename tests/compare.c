@@ -32,25 +32,27 @@ struct slice {
     size_t length;
 };
 
-static struct answers archive_answers(struct slice command, struct slice key)
-{
-    const uint8_t *c = command.bytes, *k = key.bytes;
-    struct answers answers;
-    answers.check = command_check(c, command.length);
-    answers.argument_number = command_argument_number(c, command.length, k, key.length);
-    answers.integer_number = command_integer_number(c, command.length, k, key.length);
-    answers.integer = command_integer(c, command.length, k, key.length);
-    return answers;
-}
+/* The calls of one implementation. */
+struct side {
+    uint32_t (*check)(const uint8_t *, size_t);
+    uint32_t (*argument_number)(const uint8_t *, size_t, const uint8_t *, size_t);
+    uint32_t (*integer_number)(const uint8_t *, size_t, const uint8_t *, size_t);
+    int64_t (*integer)(const uint8_t *, size_t, const uint8_t *, size_t);
+};
 
-static struct answers second_answers(struct slice command, struct slice key)
+static const struct side archive_calls = {
+    command_check, command_argument_number, command_integer_number, command_integer};
+static const struct side second_calls = {
+    second_check, second_argument_number, second_integer_number, second_integer};
+
+static struct answers ask(const struct side *side, struct slice command, struct slice key)
 {
     const uint8_t *c = command.bytes, *k = key.bytes;
     struct answers answers;
-    answers.check = second_check(c, command.length);
-    answers.argument_number = second_argument_number(c, command.length, k, key.length);
-    answers.integer_number = second_integer_number(c, command.length, k, key.length);
-    answers.integer = second_integer(c, command.length, k, key.length);
+    answers.check = side->check(c, command.length);
+    answers.argument_number = side->argument_number(c, command.length, k, key.length);
+    answers.integer_number = side->integer_number(c, command.length, k, key.length);
+    answers.integer = side->integer(c, command.length, k, key.length);
     return answers;
 }
 
@@ -162,8 +164,8 @@ static struct answers compare(struct fenced for_command, struct fenced for_key, 
     struct slice lent = put(for_command, command, at_end);
     struct slice lent_key = put(for_key, key, at_end);
 
-    struct answers archive = archive_answers(lent, lent_key);
-    struct answers second = second_answers(command, key);
+    struct answers archive = ask(&archive_calls, lent, lent_key);
+    struct answers second = ask(&second_calls, command, key);
     if (!equal(archive, second)) {
         print_answers("archive", archive);
         print_answers("second ", second);
