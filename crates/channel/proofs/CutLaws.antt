@@ -9,18 +9,18 @@ use lib.Seq.{getD-take, take-take, take-suc-set}
 use lib.Dec.{leb, ltb, eqb}
 use borrow.Author.Tests.{eqb-true, ne-eqb, leb-true, leb-false}
 use Rattle.frame.specs.Limits.{maxPayload}
-use Rattle.frame.specs.Frame.{at, frameOf}
-use Rattle.frame.specs.Header.{lengthOf}
+use Rattle.frame.specs.Frame.{frameOf}
+use Rattle.frame.specs.Header.{lengthOf, headerOf}
 use Rattle.channel.specs.Receiver.{Receiver, put, isWhole, tooLong}
 use Rattle.channel.specs.History.{isLong, isAll, idCount}
-use Rattle.channel.proofs.PlaceLaws.{take-of-drop}
+use Rattle.buffer.proofs.WriteLaws.{take-of-drop}
 
 cut-length : (n : ℕ) (w : List ℕ) → 3 ≤ n → lengthOf (take n w) ≡ lengthOf w
 unfolding lengthOf
 cut-length n w h = rw (getD-take n w 0 0 (omega arith), getD-take n w 1 0 (omega arith), getD-take n w 2 0 (omega arith))
 
 cut-frame : (n : ℕ) (w : List ℕ) → n ≡ 8 + lengthOf w → frameOf (take n w) ≡ frameOf w
-unfolding frameOf
+unfolding frameOf headerOf
 cut-frame n w e = λ i. record {
   request = g 3 (omega arith) i + 256 * g 4 (omega arith) i;
   stream = g 5 (omega arith) i;
@@ -30,7 +30,7 @@ cut-frame n w e = λ i. record {
   payload = payload i;
 }
   where
-    g : (k : ℕ) → k < 8 → at (take n w) k ≡ at w k
+    g : (k : ℕ) → k < 8 → getD (take n w) k 0 ≡ getD w k 0
     g k l = getD-take n w k 0 (omega arith)
 
     L : ℕ
@@ -104,9 +104,9 @@ module _ (bs : List ℕ) (p : Receiver) (u : Under bs p) where
       sym (cut-frame (length bs) (p .work) (n ∙ ap (λ (k : ℕ). 8 + k) (sym (same-length (omega arith))))) ∙ ap frameOf (u .held)
 
   pub small-stream : frameOf bs .stream < 256
-  unfolding frameOf
+  unfolding frameOf headerOf
   small-stream = u .small 5
 
 pub small-request : (bs : List ℕ) → ((i : ℕ) → getD bs i 0 < 256) → frameOf bs .request < idCount
-unfolding frameOf
-small-request bs s = let a : at bs 3 < 256 = s 3 in let b : at bs 4 < 256 = s 4 in omega arith
+unfolding frameOf headerOf
+small-request bs s = let a : getD bs 3 0 < 256 = s 3 in let b : getD bs 4 0 < 256 = s 4 in omega arith

@@ -22,8 +22,8 @@ use Rattle.requests.specs.Slots.{inPhase}
 use Rattle.channel.specs.Channel.{channel}
 use Rattle.channel.specs.Demands.{freshOn, Agree, Fed, nil, bytes, ends, Demand2, Demand2Session, NextFrame}
 use Rattle.channel.specs.History.{History, finish, streamOpen, itemsOf, stands, request, isIn, refusalOf, answerTo, isLong, isAll, Past, nothing, stopped, frameAfter, bytesAfter, byteAfter, finishAfter, told, Sent, none, byte, call, given}
-use Rattle.channel.specs.Rules.{firstBroken, rules}
-use Rattle.channel.proofs.Bools.{clash, fails, and-l, and-r}
+use Rattle.rules.specs.Rules.{firstBroken, rules}
+use Rattle.rules.proofs.Bools.{clash, fails, and-l, and-r}
 use Rattle.session.proofs.Laws as Laws
 use Rattle.channel.proofs.ReceiverLaws.{Ok, take-ok, finish-ok}
 use Rattle.channel.proofs.SeenLaws.{never, take-live, Finished, ended, stays, finish-cases, fresh-ok, fresh-idle}

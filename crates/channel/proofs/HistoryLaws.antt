@@ -14,7 +14,7 @@ use Rattle.requests.specs.declared.Slot.{Slot}
 use Rattle.channel.specs.declared.Channel.{Channel}
 use Rattle.frame.specs.Limits.{maxCommand, slotCount, streamCount, frameArea, workArea, partStart}
 use Rattle.session.specs.Session.{Reply}
-use Rattle.channel.specs.Rules.{checkOf, recordWith, View, isCommand, judged, Rule, rule, rules, firstBroken}
+use Rattle.rules.specs.Rules.{checkOf, recordWith, View, isCommand, judged, Rule, rule, rules, firstBroken}
 use Rattle.frame.specs.Frame.{Frame, isEven, begins, ends, isType, isNew, isMore, dataFollows, isLast}
 use Rattle.frame.specs.Records.{recordOf, two, bit}
 use Rattle.channel.specs.Receiver
@@ -24,9 +24,9 @@ use Rattle.requests.specs.Phases.{freeSlot, isPhase, code}
 use Rattle.channel.specs.History
 use Rattle.channel.specs.History.{History, frame, finish, streamOpen, isOf, itemsOf, stands, request, isIn, howMany, idCount, activeIds, own, refusalOf, recordFor, answerTo, viewIn}
 use Rattle.channel.specs.Request.{ending, idle, itemOf, moved, Request}
-use Rattle.channel.proofs.Bools.{and-l, and-r, and-i, and-no, no-not, not-no, clash, by-cond}
+use Rattle.rules.proofs.Bools.{and-l, and-r, and-i, and-no, no-not, not-no, clash, by-cond}
 use Rattle.channel.proofs.SlotLaws.{inside, each-fits}
-use Rattle.channel.proofs.RuleLaws.{passed}
+use Rattle.rules.proofs.RuleLaws.{passed}
 use Rattle.channel.proofs.CountLaws.{many-ext, none-free, used-many, in-found}
 use Rattle.channel.proofs.ReceiverLaws.{Ok, accepted-ok, finish-ok}
 use Rattle.channel.proofs.SeenLaws.{seen, Fresh, fresh-id, held-bytes, short-slot, free-empty, other-frame, own-frame, put-seen, Finished, ended, stays, finish-cases, finish-other, finish-own}

@@ -1,7 +1,5 @@
 -- Laws of the definitions, from the bottom up, and the demands.
-pub mod Bools
 pub mod SlotLaws
-pub mod RuleLaws
 pub mod ReceiverLaws
 pub mod PlaceLaws
 pub mod SeenLaws

@@ -1,83 +1,14 @@
--- Where a slot is found, and what a slot's part holds, after another slot or part is written. Assumes nothing.
-use Prim.Native.Nat.{ℕ, zero, suc, _+_, _-_, _≤_, _<_}
-use native.Mathlib.Nat.{zero-add, suc-add, add-assoc, le-of-suc-le-suc}
-use mathlib.Core.Path.{_≡_, refl, sym, ap, _∙_}
-use mathlib.Core.Logic.{_⊎_, inl, inr}
+-- Where a slot is found after another slot is written. Assumes nothing.
+use Prim.Native.Nat.{ℕ, zero, suc, _≤_, _<_}
+use native.Mathlib.Nat.{le-of-suc-le-suc}
+use mathlib.Core.Path.{_≡_, refl, ap}
 use mathlib.Core.Bool.{Bool, true, false, cond}
-use mathlib.Core.List.{List, [], _∷_, _++_}
+use mathlib.Core.List.{List, [], _∷_}
 use native.Mathlib.Omega.{arith}
-use lib.ListN.{length, take, drop, getD, set, length-take}
-use lib.Seq.{paste, take-nil, take-take, take-append-le, drop-append-le, take-length, take-paste, drop-paste, drop-drop}
+use lib.ListN.{length, getD, set}
 use Rattle.requests.specs.declared.Slot.{Slot}
-use Rattle.channel.specs.Bytes.{write}
 use Rattle.requests.specs.Slots.{firstSlot}
 use Rattle.requests.specs.Phases.{freeSlot}
-
--- ---- parts
-
-pub length-write : (w : List ℕ) (i : ℕ) (s : List ℕ) → length (write w i s) ≡ length w
-unfolding write
-length-write [] i s = refl
-length-write (x ∷ xs) (suc i) s = ap suc (length-write xs i s)
-length-write (x ∷ xs) zero [] = refl
-length-write (x ∷ xs) zero (b ∷ bs) = ap suc (length-write xs zero bs)
-
--- where they fit, the bytes between what is before and what is behind
-pub write-paste : (w : List ℕ) (i : ℕ) (s : List ℕ) → i + length s ≤ length w → write w i s ≡ paste w i s (length s)
-unfolding write
-write-paste [] zero [] h = refl
-write-paste [] zero (b ∷ bs) h = absurd (none h)
-  where
-    none : 0 + suc (length bs) ≤ 0 → ⊥
-    none k = omega arith
-write-paste [] (suc i) s h = absurd (none h)
-  where
-    none : suc i + length s ≤ 0 → ⊥
-    none k = omega arith
-write-paste (x ∷ xs) (suc i) s h = rw suc-add (ap (λ (l : List ℕ). x ∷ l) (write-paste xs i s (omega arith)))
-write-paste (x ∷ xs) zero [] h = refl
-write-paste (x ∷ xs) zero (b ∷ bs) h =
-    rw zero-add (ap (λ (l : List ℕ). b ∷ l) (write-paste xs zero bs (omega arith) ∙ ap (λ (k : ℕ). take (length bs) bs ++ drop k xs) (zero-add (length bs))))
-
-pub take-of-drop : (m p : ℕ) (l : List ℕ) → take m (drop p l) ≡ drop p (take (p + m) l)
-take-of-drop m zero l = rw zero-add
-take-of-drop m (suc p) [] = rw (take-nil m, take-nil (suc p + m))
-take-of-drop m (suc p) (x ∷ xs) = rw suc-add (take-of-drop m p xs)
-
--- bytes that are put behind the first n of a part
-pub own-part : (w : List ℕ) (p n : ℕ) (new : List ℕ) → p + n + length new ≤ length w
-    → take (n + length new) (drop p (write w (p + n) new)) ≡ take n (drop p w) ++ new
-own-part w p n new h =
-    ap (λ (l : List ℕ). take (n + length new) (drop p l)) (write-paste w (p + n) new h)
-    ∙ take-of-drop (n + length new) p (paste w (p + n) new (length new))
-    ∙ ap (λ (k : ℕ). drop p (take k (paste w (p + n) new (length new)))) (sym (add-assoc p n (length new)))
-    ∙ ap (drop p) (take-paste w (p + n) new (length new) (omega arith) (omega arith))
-    ∙ ap (λ (l : List ℕ). drop p (take (p + n) w ++ l)) (take-length new)
-    ∙ drop-append-le p (take (p + n) w) new (omega (arith, length-take (p + n) w))
-    ∙ ap (λ (l : List ℕ). l ++ new) (sym (take-of-drop n p w))
-
--- bytes that are put elsewhere
-pub other-part : (w : List ℕ) (p n at : ℕ) (new : List ℕ) → at + length new ≤ length w → (p + n ≤ at) ⊎ (at + length new ≤ p)
-    → take n (drop p (write w at new)) ≡ take n (drop p w)
-other-part w p n at new h (inl l) =
-    ap (λ (v : List ℕ). take n (drop p v)) (write-paste w at new h)
-    ∙ take-of-drop n p (paste w at new (length new))
-    ∙ ap (drop p) (sym (take-take (p + n) (at + length new) (paste w at new (length new)) (omega arith))
-    ∙ ap (take (p + n)) (take-paste w at new (length new) (omega arith) (omega arith))
-    ∙ take-append-le (p + n) (take at w) (take (length new) new) (omega (arith, length-take at w))
-    ∙ take-take (p + n) at w l)
-    ∙ sym (take-of-drop n p w)
-other-part w p n at new h (inr l) =
-    let d : ℕ = p - (at + length new) in
-    let e : at + length new + d ≡ p = omega arith in
-    ap (λ (v : List ℕ). take n (drop p v)) (write-paste w at new h)
-    ∙ ap (take n) (ap (λ (k : ℕ). drop k (paste w at new (length new))) (sym e)
-    ∙ sym (drop-drop d (at + length new) (paste w at new (length new)))
-    ∙ ap (drop d) (drop-paste w at new (length new) (omega arith) (omega arith))
-    ∙ drop-drop d (at + length new) w
-    ∙ ap (λ (k : ℕ). drop k w) e)
-
--- ---- places
 
 module _ (test : Slot → Bool) where
   pub hit : (xs : List Slot) → firstSlot test xs < length xs → test (getD xs (firstSlot test xs) freeSlot) ≡ true

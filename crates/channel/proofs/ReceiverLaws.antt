@@ -20,11 +20,11 @@ use Rattle.channel.specs.Receiver.{Receiver, slotAt, placeOf, slotOf, lo
 use Rattle.requests.specs.Slots.{inPhase, isId, slotFits, idIn, slotsFit}
 use Rattle.requests.specs.Phases.{freeSlot, isPhase, code}
 use Rattle.channel.specs.Channel.{deadFits, plainShape, heldShape, shape}
-use Rattle.channel.specs.Rules.{recordWith, firstBroken, isCommand, rules}
-use Rattle.channel.proofs.Bools.{and-l, and-r, and-i, and-no, or-r, no-not, no-is, clash, by-cond}
+use Rattle.rules.specs.Rules.{recordWith, firstBroken, isCommand, rules}
+use Rattle.rules.proofs.Bools.{and-l, and-r, and-i, and-no, or-r, no-not, no-is, clash, by-cond}
 use Rattle.channel.proofs.SlotLaws.{found, inside, each-fits, set-fits, same-id, of-id}
-use Rattle.channel.proofs.RuleLaws.{precedes, passed, in-range}
-use Rattle.channel.proofs.PlaceLaws.{length-write}
+use Rattle.rules.proofs.RuleLaws.{precedes, passed, in-range}
+use Rattle.buffer.proofs.WriteLaws.{length-write}
 
 -- the shape, part by part; the count of slots is the array's length
 pub record Ok (r : Receiver) : Type 0 where

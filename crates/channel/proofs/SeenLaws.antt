@@ -22,11 +22,12 @@ use Rattle.requests.specs.Slots.{inPhase, isId, firstSlot, slotFits, apart, slo
 use Rattle.requests.specs.Phases.{freeSlot, isPhase, code}
 use Rattle.channel.specs.Channel.{deadFits, heldShape}
 use Rattle.channel.specs.Request.{ending, itemOf, Request, idle, moved}
-use Rattle.channel.specs.Rules.{firstBroken, isCommand, rules}
-use Rattle.channel.proofs.Bools.{and-r, and-i, and-no, no-not, no-is, fails, clash, by-cond}
+use Rattle.rules.specs.Rules.{firstBroken, isCommand, rules}
+use Rattle.rules.proofs.Bools.{and-r, and-i, and-no, no-not, no-is, fails, clash, by-cond}
 use Rattle.channel.proofs.SlotLaws.{inside, each-fits, same-id, of-id, not-free-id, freed-slot}
-use Rattle.channel.proofs.RuleLaws.{passed}
-use Rattle.channel.proofs.PlaceLaws.{own-part, other-part, hit, missed, placed-at}
+use Rattle.rules.proofs.RuleLaws.{passed}
+use Rattle.buffer.proofs.WriteLaws.{own-part, other-part}
+use Rattle.channel.proofs.PlaceLaws.{hit, missed, placed-at}
 use Rattle.channel.proofs.ReceiverLaws.{Ok, Room, room, waits, used}
 
 -- the receiver seen from a request

@@ -11,7 +11,7 @@ use Rattle.requests.specs.declared.Phase.the-variants.{Free}
 use Rattle.requests.specs.declared.Slot.{Slot}
 use Rattle.requests.specs.Slots.{inPhase, isId, firstSlot, slotFits, idIn, apart, slotsFit}
 use Rattle.requests.specs.Phases.{freeSlot, isPhase, code}
-use Rattle.channel.proofs.Bools.{and-l, and-r, and-i, or-l, or-r, not-no, no-is, fails, clash}
+use Rattle.rules.proofs.Bools.{and-l, and-r, and-i, or-l, or-r, not-no, no-is, fails, clash}
 
 -- the search finds a slot that passes the test, where the list has one
 pub found : (id : ℕ) (xs : List Slot) → idIn id xs ≡ true → isId id (getD xs (firstSlot (isId id) xs) freeSlot) ≡ true

@@ -14,7 +14,7 @@ use Rattle.frame.specs.Header.{lengthOf}
 use Rattle.frame.specs.Records.{bit}
 use Rattle.channel.specs.Request.{Item, ending, itemOf, Request, idle, moved}
 use Rattle.requests.specs.Phases.{isPhase}
-use Rattle.channel.specs.Rules.{View, rules, firstBroken, recordWith}
+use Rattle.rules.specs.Rules.{View, rules, firstBroken, recordWith}
 
 -- a history has the latest first
 pub data Deed : Type 0 where

@@ -1,7 +1,5 @@
 pub mod Demands
-pub mod Bytes
 pub mod Request
-pub mod Rules
 pub mod Receiver
 pub mod Channel
 pub mod History

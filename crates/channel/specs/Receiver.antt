@@ -12,8 +12,8 @@ use Rattle.channel.specs.declared.Channel.{Channel}
 use Rattle.frame.specs.Limits.{maxPayload, slotCount, streamCount, partStart}
 use Rattle.session.specs.Session.{Step, Reply}
 use Rattle.requests.specs.Phases.{freeSlot}
-use Rattle.channel.specs.Rules.{View, isCommand, rules, firstBroken, recordWith}
-use Rattle.channel.specs.Bytes.{write}
+use Rattle.rules.specs.Rules.{View, isCommand, rules, firstBroken, recordWith}
+use Rattle.buffer.specs.Bytes.{write}
 use Rattle.frame.specs.Frame.{Frame, frameOf, ends, isType, isNew, isMore, dataFollows, isLast}
 use Rattle.frame.specs.Header.{lengthOf}
 

@@ -9,7 +9,7 @@ use lib.IntN.{ℤ, pos, negsuc}
 use Rattle.requests.specs.declared.Phase.the-variants.{Waiting}
 use Rattle.frame.specs.Limits.{longestRecord, workArea}
 use Rattle.session.specs.Session.{Call, feeds, owns, feed, own}
-use Rattle.channel.specs.Rules.{checkOf}
+use Rattle.rules.specs.Rules.{checkOf}
 use Rattle.command.specs.Lookup.{numberNumber, numberValue, integerAt}
 use Rattle.requests.specs.Phases.{freeSlot}
 use Rattle.channel.specs.Receiver.{Receiver, freshState}

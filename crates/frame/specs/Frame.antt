@@ -1,11 +1,12 @@
 -- A frame: the numbers of its header, its flags, and its payload, as document 01, "Frame header", states them.
 -- These are definitions: they assume nothing.
-use Prim.Native.Nat.{ℕ, _+_, _*_, _/_, _%_}
+use Prim.Native.Nat.{ℕ, _/_, _%_}
 use mathlib.Core.Bool.{Bool, cond, _&&_, _||_, not}
 use mathlib.Core.List.{List}
-use lib.ListN.{take, drop, getD}
+use lib.ListN.{take, drop}
 use lib.Dec.{eqb}
-use Rattle.frame.specs.Header.{lengthOf}
+use Rattle.frame.specs.declared.Header.{Header}
+use Rattle.frame.specs.Header.{lengthOf, headerOf}
 
 pub record Frame : Type 0 where
   pub request : ℕ
@@ -15,20 +16,20 @@ pub record Frame : Type 0 where
   pub flags : ℕ
   pub payload : List ℕ
 
--- byte k of the frame
-abbrev pub at : List ℕ → ℕ → ℕ
-at w k = getD w k 0
+-- the frame of a header and a payload
+abbrev pub framed : Header → List ℕ → Frame
+framed h payload = record {
+  request = h .request;
+  stream = h .stream;
+  streamFlags = h .«stream_flags»;
+  type = h .kind;
+  flags = h .flags;
+  payload = payload;
+}
 
 -- the frame that stands at the front of a work area
 unfoldable pub frameOf : List ℕ → Frame
-frameOf w = record {
-  request = at w 3 + 256 * at w 4;
-  stream = at w 5;
-  streamFlags = at w 6;
-  type = at w 7 / 16;
-  flags = at w 7 % 16;
-  payload = take (lengthOf w) (drop 8 w);
-}
+frameOf w = framed (headerOf w) (take (lengthOf w) (drop 8 w))
 
 -- a flag is set
 unfoldable pub flag : ℕ → ℕ → Bool

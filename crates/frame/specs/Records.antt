@@ -15,3 +15,7 @@ bit false = 0
 
 unfoldable pub recordOf : ℕ → List ℕ → List ℕ
 recordOf kind body = two (length body) ++ two kind ++ body
+
+-- both kinds of body: request id (2), data or last bit (1), command bytes or payload
+abbrev pub requestRecord : ℕ → ℕ → Bool → List ℕ → List ℕ
+requestRecord kind request third bytes = recordOf kind (two request ++ bit third ∷ bytes)

@@ -1,9 +1,14 @@
 // A frame's header and its settings payload.
 use cbor::Item;
 ghost use mathlib.Core.Path.{_≡_};
-ghost use lib.ListN.{getD};
+ghost use mathlib.Core.List.{[]};
+ghost use lib.ListN.{length, getD};
+ghost use Prim.Native.Nat.{_+_, _<_};
+ghost use Rattle.buffer.specs.Bytes.{write};
 ghost use Rattle.frame.specs.Header.{lengthOf, headerOf};
+ghost use Rattle.frame.specs.Frame.{framed, flag, begins, ends, isNew, isMore, dataFollows, isLast, flagsFit};
 ghost use Rattle.frame.specs.Settings.{isIdentity};
+ghost use Rattle.frame.specs.Records.{requestRecord};
 
 // The numbers of a frame's eight header bytes. The type is called kind here, for `type` is a word of the language.
 pub struct Header {
@@ -13,6 +18,73 @@ pub struct Header {
     pub stream_flags: u8,
     pub kind: u8,
     pub flags: u8,
+}
+
+// Whether a flag of this value is set.
+fn is_set(value: u8, flags: u8) -> bool
+    requires { ⌜ 0 < value ⌝ }
+    ensures { λ r. ⌜ r ≡ flag value flags ⌝ }
+{
+    flags / value % 2 == 1
+}
+
+// The flags, by their names in document 01.
+impl Header {
+    pub fn begins(self) -> bool
+        ensures { λ r. ⌜ r ≡ begins (framed self []) ⌝ }
+    {
+        is_set(0x01, self.stream_flags)
+    }
+
+    pub fn ends(self) -> bool
+        ensures { λ r. ⌜ r ≡ ends (framed self []) ⌝ }
+    {
+        is_set(0x02, self.stream_flags)
+    }
+
+    pub fn is_new(self) -> bool
+        ensures { λ r. ⌜ r ≡ isNew (framed self []) ⌝ }
+    {
+        is_set(0x01, self.flags)
+    }
+
+    pub fn is_more(self) -> bool
+        ensures { λ r. ⌜ r ≡ isMore (framed self []) ⌝ }
+    {
+        is_set(0x04, self.flags)
+    }
+
+    pub fn data_follows(self) -> bool
+        ensures { λ r. ⌜ r ≡ dataFollows (framed self []) ⌝ }
+    {
+        is_set(0x08, self.flags)
+    }
+
+    pub fn is_last(self) -> bool
+        ensures { λ r. ⌜ r ≡ isLast (framed self []) ⌝ }
+    {
+        self.flags == 0x02
+    }
+
+    // Rule 18.
+    pub fn flags_fit(self) -> bool
+        ensures { λ r. ⌜ r ≡ flagsFit (framed self []) ⌝ }
+    {
+        if self.kind == 1 {
+            let either = self.flags % 4;
+            if either == 0 {
+                return false;
+            }
+            return either != 3;
+        }
+        if self.kind == 2 {
+            if self.flags == 0x01 {
+                return true;
+            }
+            return self.flags == 0x02;
+        }
+        self.flags == 0x02
+    }
 }
 
 // The byte at a place, 0 where there is none.
@@ -64,4 +136,34 @@ pub fn is_identity(payload: &[u8]) -> bool
         return false;
     }
     keys::same_key(keys::part(payload, start, stop), b"identity")
+}
+
+// Puts a request's record into the output from a place on, and answers its length: kind 1 with the data bit and a command, or kind 2 with
+// the last bit and a payload. What does not fit is left out.
+pub fn put_record(
+    out: &mut [u8],
+    at: usize,
+    kind: u16,
+    request: u16,
+    third: bool,
+    bytes: &[u8],
+) -> usize
+    ensures { λ r. ⌜ (r ≡ length (requestRecord kind request third (now (bytes .entry)))) × (now (out .exit) ≡ write (now (out .entry)) at (requestRecord kind request third (now (bytes .entry)))) ⌝ }
+{
+    let body = bytes.len() + 3;
+    if out.len() <= at {
+        return body + 4;
+    }
+    let head = [
+        (body % 256) as u8,
+        (body / 256 % 256) as u8,
+        (kind % 256) as u8,
+        (kind / 256 % 256) as u8,
+        (request % 256) as u8,
+        (request / 256 % 256) as u8,
+        third as u8,
+    ];
+    buffer::put(out, at, &head);
+    buffer::put(out, at + 7, bytes);
+    body + 4
 }

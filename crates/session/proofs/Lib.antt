@@ -2,3 +2,4 @@
 pub mod Laws
 pub mod Counts
 pub mod Simulation
+pub mod Pieces

@@ -1,7 +1,7 @@
 -- The frame rules 12 to 29, and the record of an accepted frame, over what the frame meets.
 use Prim.Native.Nat.{ℕ}
 use mathlib.Core.Bool.{Bool, true, false, cond, _&&_, _||_, not, Bool·beq}
-use mathlib.Core.List.{List, [], _∷_, _++_}
+use mathlib.Core.List.{List, [], _∷_}
 use lib.Dec.{leb, ltb, eqb}
 use Rattle.requests.specs.declared.Phase.{Phase}
 use Rattle.requests.specs.declared.Phase.the-variants.{Free, Collecting, Waiting}
@@ -9,7 +9,7 @@ use Rattle.frame.specs.Limits.{maxCommand}
 use Rattle.command.specs.Command.{checked, numberOf}
 use Rattle.frame.specs.Frame.{Frame, isEven, begins, isType, isNew, isMore, dataFollows, isLast, flagsFit}
 use Rattle.frame.specs.Settings.{isIdentity}
-use Rattle.frame.specs.Records.{recordOf, two, bit}
+use Rattle.frame.specs.Records.{requestRecord}
 use Rattle.requests.specs.Phases.{isPhase}
 
 pub record View : Type 0 where
@@ -72,6 +72,6 @@ firstBroken (x ∷ xs) f v = elim (x .broken f v) [ true ↦ x .number | false �
 -- a whole command: all its payloads, joined in order; data: the payload; other frames give none
 unfoldable pub recordWith : Frame → List ℕ → List ℕ
 recordWith f command =
-    cond (isCommand f && not (isMore f)) (recordOf 1 (two (f .request) ++ bit (dataFollows f) ∷ command))
-    (cond (isType 2 f) (recordOf 2 (two (f .request) ++ bit (isLast f) ∷ f .payload))
+    cond (isCommand f && not (isMore f)) (requestRecord 1 (f .request) (dataFollows f) command)
+    (cond (isType 2 f) (requestRecord 2 (f .request) (isLast f) (f .payload))
     [])

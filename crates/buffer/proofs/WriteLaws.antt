@@ -1,0 +1,113 @@
+-- Bytes put into a list from a place on: the length stays, they stand where they were put, and bytes elsewhere are as they were.
+-- Assumes nothing.
+use Prim.Native.Nat.{ℕ, zero, suc, _+_, _-_, _≤_, _<_}
+use native.Mathlib.Nat.{zero-add, suc-add, add-assoc}
+use mathlib.Core.Path.{_≡_, refl, sym, ap, _∙_}
+use mathlib.Core.Logic.{_⊎_, inl, inr}
+use mathlib.Core.List.{List, [], _∷_, _++_}
+use native.Mathlib.Omega.{arith}
+use lib.ListN.{length, take, drop, length-take}
+use lib.Seq.{paste, take-nil, take-take, take-append-le, drop-append-le, take-length, take-paste, drop-paste, drop-drop}
+use Rattle.buffer.specs.Bytes.{write}
+
+pub length-write : (w : List ℕ) (i : ℕ) (s : List ℕ) → length (write w i s) ≡ length w
+unfolding write
+length-write [] i s = refl
+length-write (x ∷ xs) (suc i) s = ap suc (length-write xs i s)
+length-write (x ∷ xs) zero [] = refl
+length-write (x ∷ xs) zero (b ∷ bs) = ap suc (length-write xs zero bs)
+
+-- as many of the bytes as there is room for, between what is before and what is behind
+pub write-cut : (w : List ℕ) (i : ℕ) (s : List ℕ) (n : ℕ) → n ≤ length s → i + n ≤ length w → (n < length s → length w ≤ i + n) → write w i s ≡ paste w i s n
+unfolding write
+write-cut [] zero s zero l h f = refl
+write-cut [] zero s (suc n) l h f = absurd (none h)
+  where
+    none : 0 + suc n ≤ 0 → ⊥
+    none k = omega arith
+write-cut [] (suc i) s n l h f = absurd (none h)
+  where
+    none : suc i + n ≤ 0 → ⊥
+    none k = omega arith
+write-cut (x ∷ xs) (suc i) s n l h f = rw suc-add (ap (λ (l : List ℕ). x ∷ l) (write-cut xs i s n l (omega arith) (λ k. less (f k))))
+  where
+    less : suc (length xs) ≤ suc i + n → length xs ≤ i + n
+    less k = omega arith
+write-cut (x ∷ xs) zero [] zero l h f = refl
+write-cut (x ∷ xs) zero [] (suc n) l h f = absurd (none l)
+  where
+    none : suc n ≤ 0 → ⊥
+    none k = omega arith
+write-cut (x ∷ xs) zero (b ∷ bs) zero l h f = absurd (none (f (omega arith)))
+  where
+    none : suc (length xs) ≤ 0 + 0 → ⊥
+    none k = omega arith
+write-cut (x ∷ xs) zero (b ∷ bs) (suc n) l h f =
+    rw zero-add
+    (ap (λ (l : List ℕ). b ∷ l) (write-cut xs zero bs n (omega arith) (omega arith) (λ k. less (f (omega arith))) ∙ ap (λ (k : ℕ). take n bs ++ drop k xs) (zero-add n)))
+  where
+    less : suc (length xs) ≤ 0 + suc n → length xs ≤ 0 + n
+    less k = omega arith
+
+-- where they all fit
+pub write-paste : (w : List ℕ) (i : ℕ) (s : List ℕ) → i + length s ≤ length w → write w i s ≡ paste w i s (length s)
+write-paste w i s h = write-cut w i s (length s) (omega arith) h (λ k. absurd (none k))
+  where
+    none : length s < length s → ⊥
+    none k = omega arith
+
+-- past the end nothing is put
+pub write-out : (w : List ℕ) (i : ℕ) (s : List ℕ) → length w ≤ i → write w i s ≡ w
+unfolding write
+write-out [] i s h = refl
+write-out (x ∷ xs) zero s h = absurd (none h)
+  where
+    none : suc (length xs) ≤ 0 → ⊥
+    none k = omega arith
+write-out (x ∷ xs) (suc i) s h = ap (λ (l : List ℕ). x ∷ l) (write-out xs i s (omega arith))
+
+-- bytes put behind bytes
+pub write-twice : (w : List ℕ) (i : ℕ) (s t : List ℕ) → write (write w i s) (i + length s) t ≡ write w i (s ++ t)
+unfolding write
+write-twice [] i s t = refl
+write-twice (x ∷ xs) (suc i) s t = rw suc-add (ap (λ (l : List ℕ). x ∷ l) (write-twice xs i s t))
+write-twice (x ∷ xs) zero [] t = refl
+write-twice (x ∷ xs) zero (b ∷ bs) t = rw zero-add (ap (λ (l : List ℕ). b ∷ l) (ap (λ (k : ℕ). write (write xs zero bs) k t) (sym (zero-add (length bs))) ∙ write-twice xs zero bs t))
+
+pub take-of-drop : (m p : ℕ) (l : List ℕ) → take m (drop p l) ≡ drop p (take (p + m) l)
+take-of-drop m zero l = rw zero-add
+take-of-drop m (suc p) [] = rw (take-nil m, take-nil (suc p + m))
+take-of-drop m (suc p) (x ∷ xs) = rw suc-add (take-of-drop m p xs)
+
+-- bytes that are put behind the first n of a part
+pub own-part : (w : List ℕ) (p n : ℕ) (new : List ℕ) → p + n + length new ≤ length w
+    → take (n + length new) (drop p (write w (p + n) new)) ≡ take n (drop p w) ++ new
+own-part w p n new h =
+    ap (λ (l : List ℕ). take (n + length new) (drop p l)) (write-paste w (p + n) new h)
+    ∙ take-of-drop (n + length new) p (paste w (p + n) new (length new))
+    ∙ ap (λ (k : ℕ). drop p (take k (paste w (p + n) new (length new)))) (sym (add-assoc p n (length new)))
+    ∙ ap (drop p) (take-paste w (p + n) new (length new) (omega arith) (omega arith))
+    ∙ ap (λ (l : List ℕ). drop p (take (p + n) w ++ l)) (take-length new)
+    ∙ drop-append-le p (take (p + n) w) new (omega (arith, length-take (p + n) w))
+    ∙ ap (λ (l : List ℕ). l ++ new) (sym (take-of-drop n p w))
+
+-- bytes that are put elsewhere
+pub other-part : (w : List ℕ) (p n at : ℕ) (new : List ℕ) → at + length new ≤ length w → (p + n ≤ at) ⊎ (at + length new ≤ p)
+    → take n (drop p (write w at new)) ≡ take n (drop p w)
+other-part w p n at new h (inl l) =
+    ap (λ (v : List ℕ). take n (drop p v)) (write-paste w at new h)
+    ∙ take-of-drop n p (paste w at new (length new))
+    ∙ ap (drop p) (sym (take-take (p + n) (at + length new) (paste w at new (length new)) (omega arith))
+    ∙ ap (take (p + n)) (take-paste w at new (length new) (omega arith) (omega arith))
+    ∙ take-append-le (p + n) (take at w) (take (length new) new) (omega (arith, length-take at w))
+    ∙ take-take (p + n) at w l)
+    ∙ sym (take-of-drop n p w)
+other-part w p n at new h (inr l) =
+    let d : ℕ = p - (at + length new) in
+    let e : at + length new + d ≡ p = omega arith in
+    ap (λ (v : List ℕ). take n (drop p v)) (write-paste w at new h)
+    ∙ ap (take n) (ap (λ (k : ℕ). drop k (paste w at new (length new))) (sym e)
+    ∙ sym (drop-drop d (at + length new) (paste w at new (length new)))
+    ∙ ap (drop d) (drop-paste w at new (length new) (omega arith) (omega arith))
+    ∙ drop-drop d (at + length new) w
+    ∙ ap (λ (k : ℕ). drop k w) e)

@@ -1,0 +1,100 @@
+// The frame rules 12 to 29, in number order, over a frame's header, what the frame meets, and its payload.
+use frame::Header;
+use requests::Phase;
+ghost use mathlib.Core.Path.{_≡_};
+ghost use mathlib.Core.Bool.{_&&_, not};
+ghost use mathlib.Core.List.{[]};
+ghost use lib.Dec.{ltb};
+ghost use Prim.Native.Nat.{_+_};
+ghost use Rattle.frame.specs.Limits.{maxCommand};
+ghost use Rattle.frame.specs.Frame.{framed, isType};
+ghost use Rattle.frame.specs.Settings.{isIdentity};
+ghost use Rattle.rules.specs.Rules.{firstBroken, checkOf};
+ghost use Rattle.rules.specs.Stages.{viewed, headRules, lastRules, tried};
+
+// What a frame meets: whether its stream is open; its request's phase and data bit; whether no slot is free; and, of a command frame, the
+// index of its slot and how many bytes of the command the slot's part holds.
+pub struct Met {
+    pub is_open: bool,
+    pub phase: Phase,
+    pub databit: bool,
+    pub full: bool,
+    pub target: usize,
+    pub held: usize,
+}
+
+// A rule is tried where none before it is broken: the number of the first broken one so far, 0 where none is.
+fn try_rule(n: u8, broken: bool, number: u8) -> u8
+    ensures { λ r. ⌜ r ≡ tried n broken number ⌝ }
+{
+    if n != 0 {
+        return n;
+    }
+    if broken {
+        return number;
+    }
+    0
+}
+
+// Whether a command of this many bytes held and this many more is longer than 2,048 in all.
+fn is_long(held: usize, more: usize) -> bool
+    ensures { λ r. ⌜ r ≡ ltb maxCommand (held + more) ⌝ }
+{
+    if 2048 < held {
+        return true;
+    }
+    2048 - held < more
+}
+
+// Rules 12 to 23: those that are tried before the payload is put in a slot's part.
+pub fn head_number(h: Header, m: Met) -> u8
+    ensures { λ r. ⌜ r ≡ firstBroken headRules (framed h []) (viewed m h []) ⌝ }
+{
+    let phase = m.phase;
+    let code = requests::phase_code(phase);
+    let known = (h.kind == 1) | (h.kind == 2) | (h.kind == 9);
+    let begins = h.begins();
+    let command = h.kind == 1;
+    let first = command & h.is_new();
+    let further = command & !h.is_new();
+    let n = try_rule(0, h.request % 2 == 0, 12);
+    let n = try_rule(n, h.stream % 2 == 0, 13);
+    let n = try_rule(n, 8 <= h.stream_flags, 14);
+    let n = try_rule(n, !known, 15);
+    let n = try_rule(n, !m.is_open & !begins, 16);
+    let n = try_rule(n, m.is_open & begins, 17);
+    let n = try_rule(n, !h.flags_fit(), 18);
+    let n = try_rule(n, first & (code != 0), 19);
+    let n = try_rule(n, first & m.full, 20);
+    let n = try_rule(n, further & (code != 1), 21);
+    let n = try_rule(n, further & (h.data_follows() != m.databit), 22);
+    try_rule(n, command & is_long(m.held, h.length), 23)
+}
+
+// Rules 24 to 26: the check of a command that is whole.
+pub fn command_number(command: &[u8]) -> u8
+    ensures { λ r. ⌜ r ≡ checkOf (now (command .entry)) ⌝ }
+{
+    command::refusal(command::check(command)) as u8
+}
+
+// Whether a frame is settings that read something else than `identity`.
+fn is_unread(h: Header, payload: &[u8]) -> bool
+    ensures { λ r. ⌜ r ≡ (isType 9 (framed h []) && not (isIdentity (now (payload .entry)))) ⌝ }
+{
+    if h.kind != 9 {
+        return false;
+    }
+    !frame::is_identity(payload)
+}
+
+// Rules 27 to 29.
+pub fn last_number(h: Header, m: Met, payload: &[u8]) -> u8
+    ensures { λ r. ⌜ r ≡ firstBroken lastRules (framed h (now (payload .entry))) (viewed m h []) ⌝ }
+{
+    let phase = m.phase;
+    let code = requests::phase_code(phase);
+    let n = try_rule(0, (h.kind == 2) & (code != 2), 27);
+    let n = try_rule(n, (h.kind == 9) & !h.begins(), 28);
+    try_rule(n, is_unread(h, payload), 29)
+}
