@@ -6,8 +6,9 @@ use mathlib.Core.Path.{_≡_, refl, sym, ap, _∙_}
 use mathlib.Core.Logic.{_⊎_, inl, inr}
 use mathlib.Core.List.{List, [], _∷_, _++_}
 use native.Mathlib.Omega.{arith}
-use lib.ListN.{length, take, drop, length-take}
-use lib.Seq.{paste, take-nil, take-take, take-append-le, drop-append-le, take-length, take-paste, drop-paste, drop-drop}
+use lib.ListN.{length, take, drop, set, length-take, length-drop, take-append-drop}
+use lib.Seq.{paste, take-nil, take-take, take-append-le, drop-append-le, take-length, length-take-le, take-paste, drop-paste, drop-drop}
+use borrow.Rule.Slice.PartMut.{midOf, putMid}
 use Rattle.buffer.specs.Bytes.{write}
 
 pub length-write : (w : List ℕ) (i : ℕ) (s : List ℕ) → length (write w i s) ≡ length w
@@ -66,6 +67,13 @@ write-out (x ∷ xs) zero s h = absurd (none h)
     none k = omega arith
 write-out (x ∷ xs) (suc i) s h = ap (λ (l : List ℕ). x ∷ l) (write-out xs i s (omega arith))
 
+-- the first byte, and then the others
+pub write-set : (w : List ℕ) (i b : ℕ) (bs : List ℕ) → write w i (b ∷ bs) ≡ write (set w i b) (suc i) bs
+unfolding write
+write-set [] i b bs = refl
+write-set (x ∷ xs) zero b bs = refl
+write-set (x ∷ xs) (suc i) b bs = ap (λ (l : List ℕ). x ∷ l) (write-set xs i b bs)
+
 -- bytes put behind bytes
 pub write-twice : (w : List ℕ) (i : ℕ) (s t : List ℕ) → write (write w i s) (i + length s) t ≡ write w i (s ++ t)
 unfolding write
@@ -73,6 +81,14 @@ write-twice [] i s t = refl
 write-twice (x ∷ xs) (suc i) s t = rw suc-add (ap (λ (l : List ℕ). x ∷ l) (write-twice xs i s t))
 write-twice (x ∷ xs) zero [] t = refl
 write-twice (x ∷ xs) zero (b ∷ bs) t = rw zero-add (ap (λ (l : List ℕ). b ∷ l) (ap (λ (k : ℕ). write (write xs zero bs) k t) (sym (zero-add (length bs))) ∙ write-twice xs zero bs t))
+
+-- the bytes before a place and those put there
+pub take-written : (w : List ℕ) (i : ℕ) (s : List ℕ) → i + length s ≤ length w → take (i + length s) (write w i s) ≡ take i w ++ s
+take-written w i s h =
+    ap (take (i + length s)) (write-paste w i s h) ∙ take-paste w i s (length s) (omega arith) (omega arith) ∙ ap (λ (l : List ℕ). take i w ++ l) (take-length s)
+
+pub take-front : (w s : List ℕ) → length s ≤ length w → take (length s) (write w 0 s) ≡ s
+take-front w s h = ap (λ (k : ℕ). take k (write w 0 s)) (sym (zero-add (length s))) ∙ take-written w 0 s (omega arith)
 
 pub take-of-drop : (m p : ℕ) (l : List ℕ) → take m (drop p l) ≡ drop p (take (p + m) l)
 take-of-drop m zero l = rw zero-add
@@ -111,3 +127,41 @@ other-part w p n at new h (inr l) =
     ∙ ap (drop d) (drop-paste w at new (length new) (omega arith) (omega arith))
     ∙ drop-drop d (at + length new) w
     ∙ ap (λ (k : ℕ). drop k w) e)
+
+-- nothing is put
+pub write-none : (w : List ℕ) (i : ℕ) → write w i [] ≡ w
+unfolding write
+write-none [] i = refl
+write-none (x ∷ xs) zero = refl
+write-none (x ∷ xs) (suc i) = ap (λ (l : List ℕ). x ∷ l) (write-none xs i)
+
+-- bytes that are put behind a first part
+pub write-skip : (p q : List ℕ) (i : ℕ) (s : List ℕ) → write (p ++ q) (length p + i) s ≡ p ++ write q i s
+unfolding write
+write-skip [] q i s = rw zero-add
+write-skip (x ∷ p) q i s = rw suc-add (ap (λ (l : List ℕ). x ∷ l) (write-skip p q i s))
+
+-- bytes that are put within a first part
+pub write-within : (m rest : List ℕ) (i : ℕ) (s : List ℕ) → i + length s ≤ length m → write (m ++ rest) i s ≡ write m i s ++ rest
+unfolding write
+write-within [] rest zero [] h = write-none rest 0
+write-within [] rest zero (b ∷ bs) h = absurd (none h)
+  where
+    none : 0 + suc (length bs) ≤ 0 → ⊥
+    none k = omega arith
+write-within [] rest (suc i) s h = absurd (none h)
+  where
+    none : suc i + length s ≤ 0 → ⊥
+    none k = omega arith
+write-within (x ∷ xs) rest (suc i) s h = ap (λ (l : List ℕ). x ∷ l) (write-within xs rest i s (omega arith))
+write-within (x ∷ xs) rest zero [] h = refl
+write-within (x ∷ xs) rest zero (b ∷ bs) h = ap (λ (l : List ℕ). b ∷ l) (write-within xs rest zero bs (omega arith))
+
+-- bytes that are put into a part that was lent
+pub write-mid : (w : List ℕ) (a k at : ℕ) (s : List ℕ) → a + k ≤ length w → at + length s ≤ k → putMid a k w (write (midOf a k w) at s) ≡ write w (a + at) s
+write-mid w a k at s h l =
+    let front : length (take a w) ≡ a = length-take-le a w (omega arith) in
+    let part : length (midOf a k w) ≡ k = length-take-le k (drop a w) (omega (arith, length-drop a w)) in
+    ap (λ (v : List ℕ). take a w ++ v) (sym (write-within (midOf a k w) (drop k (drop a w)) at s (omega arith)))
+    ∙ sym (write-skip (take a w) (midOf a k w ++ drop k (drop a w)) at s)
+    ∙ rw (front, take-append-drop k (drop a w), take-append-drop a w)

@@ -24,7 +24,7 @@ unfoldable pub filled : Receiver → List ℕ → Receiver
 filled r [] = r
 filled r (b ∷ bs) = filled (put r b) bs
 
-pub judged-at : Receiver → Step Receiver
+unfoldable pub judged-at : Receiver → Step Receiver
 judged-at p = judge (p .state) (frameOf (p .work)) (p .work)
 
 -- the last of these bytes, and no other, completes a frame that 11 lets pass
@@ -32,11 +32,11 @@ data Reads : Receiver → List ℕ → Type 0 where
   last : {r : Receiver} {b : ℕ} → r .state .dead ≡ 0 → tooLong (put r b) ≡ false → isWhole (put r b) ≡ true → Reads r (b ∷ [])
   more : {r : Receiver} {b : ℕ} {bs : List ℕ} → r .state .dead ≡ 0 → tooLong (put r b) ≡ false → isWhole (put r b) ≡ false → Reads (put r b) bs → Reads r (b ∷ bs)
 
-counted-whole : (p : Receiver) → tooLong p ≡ false → isWhole p ≡ true → counted p ≡ judged-at p
+pub counted-whole : (p : Receiver) → tooLong p ≡ false → isWhole p ≡ true → counted p ≡ judged-at p
 unfolding counted judged-at
 counted-whole p l h = rw (l, h, counted)
 
-counted-open : (p : Receiver) → tooLong p ≡ false → isWhole p ≡ false → counted p ≡ record { next = p; adds = [] }
+pub counted-open : (p : Receiver) → tooLong p ≡ false → isWhole p ≡ false → counted p ≡ record { next = p; adds = [] }
 unfolding counted
 counted-open p l h = rw (l, h, counted)
 
@@ -54,7 +54,7 @@ unfolding filled put
 kept-length [] r h = refl
 kept-length (b ∷ bs) r h = kept-length bs (put r b) (omega arith) ∙ length-later (r .work) (r .state .pending) b h
 
-not-long : (p : Receiver) → (p .state .pending ≡ 8 → lengthOf (p .work) ≤ maxPayload) → tooLong p ≡ false
+pub not-long : (p : Receiver) → (p .state .pending ≡ 8 → lengthOf (p .work) ≤ maxPayload) → tooLong p ≡ false
 unfolding tooLong
 not-long p h =
     fails (tooLong p) (λ t. clash

@@ -23,7 +23,7 @@ use Rattle.channel.specs.Channel.{deadFits, plainShape, heldShape, shape
 use Rattle.rules.specs.Rules.{recordWith, firstBroken, isCommand, rules}
 use Rattle.rules.proofs.Bools.{and-l, and-r, and-i, and-no, or-r, no-not, no-is, clash, by-cond}
 use Rattle.channel.proofs.SlotLaws.{found, inside, each-fits, set-fits, same-id, of-id}
-use Rattle.rules.proofs.RuleLaws.{precedes, passed, in-range}
+use Rattle.rules.proofs.RuleLaws.{numbered, precedes, passed, in-range}
 use Rattle.buffer.proofs.WriteLaws.{length-write}
 
 -- the shape, part by part; the count of slots is the array's length
@@ -63,7 +63,7 @@ ok-shape r k = and-i (plainShape (r .state)) (heldShape r) (ok-plain r k) (k .he
 
 -- ---- the held length
 
-held-e : (r : Receiver) → heldShape r ≡ true → 8 ≤ r .state .pending → (lengthOf (r .work) ≤ maxPayload) × (r .state .pending < 8 + lengthOf (r .work))
+pub held-e : (r : Receiver) → heldShape r ≡ true → 8 ≤ r .state .pending → (lengthOf (r .work) ≤ maxPayload) × (r .state .pending < 8 + lengthOf (r .work))
 unfolding heldShape
 held-e r e h = go (ltb (r .state .pending) 8) refl e
   where
@@ -80,7 +80,7 @@ held-e r e h = go (ltb (r .state .pending) 8) refl e
         below l = omega arith
     go false q p = (leb-true L maxPayload (and-l (leb L maxPayload) (ltb n (8 + L)) p), ltb-true n (8 + L) (and-r (leb L maxPayload) (ltb n (8 + L)) p))
 
-held-i : (r : Receiver) → (8 ≤ r .state .pending → (lengthOf (r .work) ≤ maxPayload) × (r .state .pending < 8 + lengthOf (r .work))) → heldShape r ≡ true
+pub held-i : (r : Receiver) → (8 ≤ r .state .pending → (lengthOf (r .work) ≤ maxPayload) × (r .state .pending < 8 + lengthOf (r .work))) → heldShape r ≡ true
 unfolding heldShape
 held-i r h = go (ltb (r .state .pending) 8) refl
   where
@@ -178,26 +178,32 @@ unfolding isPhase code enter
 data-fits x true e w = (running-fits (x .id) (x .length) (x .phase) (x .databit) e w, of-id x (used Waiting x refl w))
 data-fits x false e w = (e, of-id x (used Waiting x refl w))
 
+-- a command frame that passed 20, 21 and 23 has a slot, and room in the slot's part
+pub room-of : (s : Channel) (f : Frame) (w : List ℕ) → length (s .slots) ≡ slotCount → numbered rules 20 f (viewOf s f w) ≡ false → numbered rules 21 f (viewOf s f w) ≡ false
+    → numbered rules 23 f (viewOf s f w) ≡ false → isCommand f ≡ true → (target s f < slotCount) × (commandLength s f ≤ maxCommand)
+unfolding rules target slotAt code viewOf
+room-of s f w count e20 e21 e23 c = (place (isNew f) refl, ltb-false maxCommand (commandLength s f) (and-no (isCommand f) (ltb maxCommand (commandLength s f)) e23 c))
+  where
+    place : (t : Bool) → isNew f ≡ t → cond t (lowestFree s) (placeOf s (f .request)) < slotCount
+    place true q =
+        let l : lowestFree s < length (s .slots) =
+        leb-false (length (s .slots)) (lowestFree s) (and-no (isCommand f && isNew f) (leb (length (s .slots)) (lowestFree s)) e20 (and-i (isCommand f) (isNew f) c q)) in
+        omega (arith, count)
+    place false q =
+        let p : inPhase Collecting (slotOf s (f .request)) ≡ true =
+        no-not (inPhase Collecting (slotOf s (f .request)))
+        (and-no (isCommand f && not (isNew f)) (not (inPhase Collecting (slotOf s (f .request)))) e21 (and-i (isCommand f) (not (isNew f)) c (no-is (isNew f) q))) in
+        let l : placeOf s (f .request) < length (s .slots) = inside (s .slots) (placeOf s (f .request)) (used Collecting (slotOf s (f .request)) refl p) in
+        omega (arith, count)
+
 module _ (s : Channel) (f : Frame) (w : List ℕ) (wide : workArea ≤ length w) (count : length (s .slots) ≡ slotCount) (fit : slotsFit (s .slots) ≡ true) where
-  -- a command frame that passed 20, 21 and 23 has a slot, and room in the slot's part
   abbrev pub Room : Type 0
   Room = (target s f < slotCount) × (commandLength s f ≤ maxCommand)
 
   pub room : (n : ℕ) → precedes rules 20 n ≡ true → precedes rules 21 n ≡ true → precedes rules 23 n ≡ true → isCommand f ≡ true → firstBroken rules f (viewOf s f w) ≡ n → Room
-  unfolding rules target slotAt code viewOf
-  room n a20 a21 a23 c e = (place (isNew f) refl, ltb-false maxCommand (commandLength s f) (and-no (isCommand f) (ltb maxCommand (commandLength s f)) (passed f (viewOf s f w) rules 23 n a23 e) c))
-    where
-      place : (t : Bool) → isNew f ≡ t → cond t (lowestFree s) (placeOf s (f .request)) < slotCount
-      place true q =
-          let l : lowestFree s < length (s .slots) =
-          leb-false (length (s .slots)) (lowestFree s) (and-no (isCommand f && isNew f) (leb (length (s .slots)) (lowestFree s)) (passed f (viewOf s f w) rules 20 n a20 e) (and-i (isCommand f) (isNew f) c q)) in
-          omega (arith, count)
-      place false q =
-          let p : inPhase Collecting (slotOf s (f .request)) ≡ true =
-          no-not (inPhase Collecting (slotOf s (f .request)))
-          (and-no (isCommand f && not (isNew f)) (not (inPhase Collecting (slotOf s (f .request)))) (passed f (viewOf s f w) rules 21 n a21 e) (and-i (isCommand f) (not (isNew f)) c (no-is (isNew f) q))) in
-          let l : placeOf s (f .request) < length (s .slots) = inside (s .slots) (placeOf s (f .request)) (used Collecting (slotOf s (f .request)) refl p) in
-          omega (arith, count)
+  room n a20 a21 a23 c e =
+      let v = viewOf s f w in
+      room-of s f w count (passed f v rules 20 n a20 e) (passed f v rules 21 n a21 e) (passed f v rules 23 n a23 e) c
 
   placed-wide : workArea ≤ length (placed s f w)
   unfolding placed

@@ -5,6 +5,7 @@ use mathlib.Core.List.{List}
 use lib.ListN.{length}
 use lib.Dec.{leb, ltb, eqb}
 use Rattle.channel.specs.declared.Channel.{Channel}
+use Rattle.channel.specs.declared.Fed.{Fed}
 use Rattle.channel.specs.declared.Finished.{Finished}
 use Rattle.frame.specs.Limits.{maxPayload, longestRecord, frameArea, workArea}
 use Rattle.session.specs.Session.{Machine, Feed, Reply, feed}
@@ -45,6 +46,10 @@ feedOf s work input out = feed channel (record { state = s; work = work }) input
 
 abbrev pub finishOf : Channel → ℕ → Reply Channel
 finishOf s id = cond (plainShape s) (finishState s id) (record { next = s; number = 3 })
+
+-- feed's answer with the work area and the output after the call
+abbrev pub fedWith : Fed → List ℕ → List ℕ → Feed Receiver
+fedWith a work out = record { number = a .number; taken = a .taken; written = a .written; next = record { state = a .channel; work = work }; output = out }
 
 -- the numbers and the state in finish's answer
 abbrev pub finished : Reply Channel → Finished

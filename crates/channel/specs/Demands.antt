@@ -1,16 +1,17 @@
 -- What is claimed of the channel: a reader starts here. `Demand3` and the claims beside it are proved in proofs/Demand3.antt, `Demand2` and
 -- those beside it in proofs/Demand2.antt. These are definitions: they assume nothing.
-use Prim.Native.Nat.{ℕ, _≤_, _<_}
+use Prim.Native.Nat.{ℕ, _+_, _≤_, _<_}
 use mathlib.Core.Path.{_≡_}
-use mathlib.Core.Bool.{true}
+use mathlib.Core.Bool.{true, false}
 use mathlib.Core.List.{List, [], _∷_, _++_}
 use lib.ListN.{length, getD, take}
 use lib.Dec.{leb}
-use Rattle.frame.specs.Limits.{slotCount, longestRecord, workArea}
-use Rattle.frame.specs.Frame.{frameOf}
+use Rattle.buffer.specs.Bytes.{write}
+use Rattle.frame.specs.Limits.{slotCount, longestRecord, workArea, partStart}
+use Rattle.frame.specs.Frame.{frameOf, isNew}
 use Rattle.session.specs.Session.{Call, feeds, owns, Event, Outcome, uncut, session, events, feed}
 use Rattle.session.specs.Counts.{Counted, recordsOf}
-use Rattle.channel.specs.Receiver.{Receiver, freshState, takeByte}
+use Rattle.channel.specs.Receiver.{Receiver, freshState, slotOf, placeOf, lowestFree, put, takeByte}
 use Rattle.channel.specs.Channel.{shape, channel}
 use Rattle.channel.specs.History.{Past, nothing, told, Sent, isAll, refusalOf, given}
 
@@ -82,3 +83,23 @@ NextFrame =
     → told nothing es .end .number ≡ 0 → isAll (told nothing es .end .under ++ b ∷ []) ≡ true
     → (takeByte (uncut channel (freshOn w) es .end) b .next .state .dead ≡ refusalOf (told nothing es .end .deeds) (frameOf (told nothing es .end .under ++ b ∷ [])))
     × (takeByte (uncut channel (freshOn w) es .end) b .adds ≡ given (told nothing es .end .deeds) (frameOf (told nothing es .end .under ++ b ∷ [])))
+
+-- ---- what a refusal leaves
+
+-- The receiver after a byte that refuses its frame with a number: slots and streams as before the frame, nothing pending. The work area has
+-- the byte in its place; with 24, 25 or 26 it has the payload too, a new command's at the start of the lowest free slot's part, a further
+-- one's behind the bytes that its slot's part holds.
+pub record Refused (r : Receiver) (b n : ℕ) (q : Receiver) : Type 0 where
+  pub slots : q .state .slots ≡ r .state .slots
+  pub streams : q .state .streams ≡ r .state .streams
+  pub pending : q .state .pending ≡ 0
+  pub work : (24 ≤ n → n ≤ 26 → ⊥) → q .work ≡ put r b .work
+  pub first : 24 ≤ n → n ≤ 26 → isNew (frameOf (put r b .work)) ≡ true
+      → q .work ≡ write (put r b .work) (partStart (lowestFree (r .state))) (frameOf (put r b .work) .payload)
+  pub further : 24 ≤ n → n ≤ 26 → isNew (frameOf (put r b .work)) ≡ false
+      → q .work ≡ write (put r b .work) (partStart (placeOf (r .state) (frameOf (put r b .work) .request)) + slotOf (r .state) (frameOf (put r b .work) .request) .length) (frameOf (put r b .work) .payload)
+
+abbrev pub AfterRefusal : Type 0
+AfterRefusal =
+    (r : Receiver) → Sound r → r .state .dead ≡ 0 → (b n : ℕ) → takeByte r b .next .state .dead ≡ n → (n ≡ 0 → ⊥)
+    → Refused r b n (takeByte r b .next) × (takeByte r b .adds ≡ [])

@@ -4,17 +4,17 @@ use Prim.Native.Nat.{ℕ, zero, suc, _+_, _<_}
 use mathlib.Core.Bool.{Bool, true, false, cond, _&&_, _||_, not}
 use mathlib.Core.List.{List, [], _∷_, _++_}
 use lib.ListN.{length}
-use lib.Dec.{leb, ltb, eqb}
+use lib.Dec.{leb, eqb}
 use Rattle.requests.specs.declared.Phase.{Phase}
 use Rattle.requests.specs.declared.Phase.the-variants.{Free, Running}
-use Rattle.frame.specs.Limits.{maxPayload, slotCount}
+use Rattle.frame.specs.Limits.{slotCount}
 use Rattle.session.specs.Session.{Step, Reply, Event, took, asked, Outcome, fed, answered}
 use Rattle.frame.specs.Frame.{Frame, frameOf, ends, isType}
 use Rattle.frame.specs.Header.{lengthOf}
 use Rattle.frame.specs.Records.{bit}
 use Rattle.channel.specs.Request.{Item, ending, itemOf, Request, idle, moved}
 use Rattle.requests.specs.Phases.{isPhase}
-use Rattle.rules.specs.Rules.{View, rules, firstBroken, recordWith}
+use Rattle.rules.specs.Rules.{View, overlong, rules, firstBroken, recordWith}
 
 -- a history has the latest first
 pub data Deed : Type 0 where
@@ -102,7 +102,7 @@ answerTo h id = cond (isIn Running (request h id)) 0 4
 
 -- of a frame's first bytes: rule 11, and that they are all of it
 unfoldable pub isLong : List ℕ → Bool
-isLong bs = eqb (length bs) 8 && ltb maxPayload (lengthOf bs)
+isLong bs = eqb (length bs) 8 && overlong (lengthOf bs)
 
 unfoldable pub isAll : List ℕ → Bool
 isAll bs = eqb (length bs) (8 + lengthOf bs)

@@ -3,16 +3,16 @@ use Prim.Native.Nat.{ℕ, zero, suc, _+_, _/_}
 use mathlib.Core.Bool.{Bool, true, false, cond, _&&_, not}
 use mathlib.Core.List.{List, [], _++_}
 use lib.ListN.{length, take, drop, getD, set, replicate}
-use lib.Dec.{leb, ltb, eqb}
+use lib.Dec.{leb, eqb}
 use Rattle.requests.specs.declared.Phase.{Phase}
 use Rattle.requests.specs.declared.Phase.the-variants.{Free, Collecting, Waiting, Running}
 use Rattle.requests.specs.declared.Slot.{Slot}
 use Rattle.requests.specs.Slots.{inPhase, firstSlot, isId}
 use Rattle.channel.specs.declared.Channel.{Channel}
-use Rattle.frame.specs.Limits.{maxPayload, slotCount, streamCount, partStart}
+use Rattle.frame.specs.Limits.{slotCount, streamCount, partStart}
 use Rattle.session.specs.Session.{Step, Reply}
 use Rattle.requests.specs.Phases.{freeSlot}
-use Rattle.rules.specs.Rules.{View, isCommand, rules, firstBroken, recordWith}
+use Rattle.rules.specs.Rules.{View, isCommand, overlong, rules, firstBroken, recordWith}
 use Rattle.buffer.specs.Bytes.{write}
 use Rattle.frame.specs.Frame.{Frame, frameOf, ends, isType, isNew, isMore, dataFollows, isLast}
 use Rattle.frame.specs.Header.{lengthOf}
@@ -84,13 +84,17 @@ refused n s w = record {
 unfoldable pub refusedWork : ℕ → Channel → Frame → List ℕ → List ℕ
 refusedWork n s f w = cond (leb 24 n && leb n 26) (placed s f w) w
 
-unfoldable pub commandSlot : Channel → Frame → Slot
-commandSlot s f = record {
+-- the slot of a command frame's request, with the command's length
+abbrev pub collected : Frame → ℕ → Slot
+collected f n = record {
   id = f .request;
   phase = cond (isMore f) Collecting (cond (dataFollows f) Waiting Running);
   databit = dataFollows f;
-  length = cond (isMore f) (commandLength s f) 0;
+  length = cond (isMore f) n 0;
 }
+
+unfoldable pub commandSlot : Channel → Frame → Slot
+commandSlot s f = collected f (commandLength s f)
 
 unfoldable pub enter : Phase → Slot → Slot
 enter p x = record { id = x .id; phase = p; databit = x .databit; length = x .length }
@@ -136,7 +140,7 @@ unfoldable pub isWhole : Receiver → Bool
 isWhole r = eqb (r .state .pending) (8 + lengthOf (r .work))
 
 unfoldable pub tooLong : Receiver → Bool
-tooLong r = eqb (r .state .pending) 8 && ltb maxPayload (lengthOf (r .work))
+tooLong r = eqb (r .state .pending) 8 && overlong (lengthOf (r .work))
 
 unfoldable pub counted : Receiver → Step Receiver
 counted r =

@@ -1,4 +1,7 @@
 // The receiving side of one channel: its state, by value.
+mod feed;
+mod judge;
+
 use requests::Slot;
 use requests::Want;
 ghost use mathlib.Core.Path.{_≡_};
@@ -12,6 +15,14 @@ pub struct Channel {
     pub pending: usize,
     pub slots: [Slot; 8],
     pub streams: [bool; 128],
+}
+
+// What feed answers: its number, how many bytes of the input it took, how many bytes of the output it wrote, and the state after it.
+pub struct Fed {
+    pub number: u8,
+    pub taken: usize,
+    pub written: usize,
+    pub channel: Channel,
 }
 
 // What finish answers: its number, and the state after it.
@@ -50,7 +61,7 @@ impl Channel {
     }
 
     // Whether the plain numbers of rule 3 are in order.
-    fn is_plain(self) -> bool
+    pub(crate) fn is_plain(self) -> bool
         ensures { λ r. ⌜ r ≡ plainShape self ⌝ }
     {
         if 4103 < self.pending {

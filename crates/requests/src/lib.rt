@@ -3,7 +3,7 @@ ghost use mathlib.Core.Path.{_≡_};
 ghost use Rattle.frame.specs.Frame.{isEven};
 ghost use Rattle.requests.specs.Phases.{code, freeSlot};
 ghost use Rattle.requests.specs.Slots.{firstSlot, isId, meets, slotFits, idIn, apart, slotsFit};
-ghost use lib.ListN.{drop};
+ghost use lib.ListN.{drop, getD, set};
 
 // A request is collecting (its command isn't whole), waiting for data, or running. A free slot holds none.
 pub enum Phase {
@@ -144,6 +144,27 @@ pub fn find(slots: [Slot; 8], w: Want) -> usize
         i += 1;
     }
     8
+}
+
+// The slot at an index, a free one where there is none.
+pub fn slot_at(slots: [Slot; 8], i: usize) -> Slot
+    ensures { λ r. ⌜ r ≡ getD slots i freeSlot ⌝ }
+{
+    if i < 8 {
+        return slots[i];
+    }
+    Slot::free()
+}
+
+// The slots with another one at an index; as they are where there is none.
+pub fn with_slot(slots: [Slot; 8], i: usize, s: Slot) -> [Slot; 8]
+    ensures { λ r. ⌜ r ≡ set slots i s ⌝ }
+{
+    let mut next = slots;
+    if i < 8 {
+        next[i] = s;
+    }
+    next
 }
 
 // Whether a used slot from an index on holds this id.

@@ -1,11 +1,11 @@
--- The frame rules 12 to 29, and the record of an accepted frame, over what the frame meets.
+-- The frame rules 11 to 29, and the record of an accepted frame, over what the frame meets.
 use Prim.Native.Nat.{ℕ}
 use mathlib.Core.Bool.{Bool, true, false, cond, _&&_, _||_, not, Bool·beq}
 use mathlib.Core.List.{List, [], _∷_}
 use lib.Dec.{leb, ltb, eqb}
 use Rattle.requests.specs.declared.Phase.{Phase}
 use Rattle.requests.specs.declared.Phase.the-variants.{Free, Collecting, Waiting}
-use Rattle.frame.specs.Limits.{maxCommand}
+use Rattle.frame.specs.Limits.{maxPayload, maxCommand}
 use Rattle.command.specs.Command.{checked, numberOf}
 use Rattle.frame.specs.Frame.{Frame, isEven, begins, isType, isNew, isMore, dataFollows, isLast, flagsFit}
 use Rattle.frame.specs.Settings.{isIdentity}
@@ -41,7 +41,11 @@ checkOf bytes = numberOf (checked bytes)
 unfoldable pub judged : ℕ → Frame → View → Bool
 judged n f v = isCommand f && not (isMore f) && eqb (checkOf (v .command)) n
 
--- in number order
+-- 11, which is judged on the eighth byte: over the payload length
+abbrev pub overlong : ℕ → Bool
+overlong n = ltb maxPayload n
+
+-- the others, which are judged on the last byte, in number order
 unfoldable pub rules : List Rule
 rules =
     rule 12 (λ f v. isEven (f .request))

@@ -12,10 +12,11 @@ ghost use Rattle.frame.specs.Settings.{isIdentity};
 ghost use Rattle.rules.specs.Rules.{firstBroken, checkOf};
 ghost use Rattle.rules.specs.Stages.{viewed, headRules, lastRules, tried};
 
-// What a frame meets: whether its stream is open; its request's phase and data bit; whether no slot is free; and, of a command frame, the
-// index of its slot and how many bytes of the command the slot's part holds.
+// What a frame meets: whether its stream is open; the index of its request's slot, 8 where it has none; the request's phase and data bit;
+// whether no slot is free; and, of a command frame, the index of its slot and how many bytes of the command the slot's part holds.
 pub struct Met {
     pub is_open: bool,
+    pub place: usize,
     pub phase: Phase,
     pub databit: bool,
     pub full: bool,

@@ -16,6 +16,9 @@ and-false : (a : Bool) → (a && false) ≡ false
 and-false true = refl
 and-false false = refl
 
+pub not-zero : (n : ℕ) → suc n ≡ 0 → ⊥
+not-zero n e = omega arith
+
 -- what the theorem asks of a receiver: an invariant that passes the checks 2 and 3 and that bytes and calls keep
 pub record Keeps (m : Machine) : Type 1 where
   pub Ok : m .Recv → Type 0
@@ -43,6 +46,33 @@ module _ (m : Machine) where
   unfolding read
   read-more r room b bs e d = rw (e, d, read)
 
+  -- what holds of every reading: of one that has no input, that 5 stops, that a refusal ends, and that goes on with what holds of the rest
+  pub read-case : (P : m .Recv → ℕ → List ℕ → Reading (m .Recv) → Type 0)
+      → ((r : m .Recv) (room : ℕ) → P r room [] (record { number = 0; taken = 0; next = r; records = [] }))
+      → ((r : m .Recv) (room b : ℕ) (bs : List ℕ) → (m .closes r b && ltb room (m .longest)) ≡ true → P r room (b ∷ bs) (record { number = 5; taken = 0; next = r; records = [] }))
+      → ((r : m .Recv) (room b : ℕ) (bs : List ℕ) (n : ℕ) → (m .closes r b && ltb room (m .longest)) ≡ false → m .dead (m .byte r b .next) ≡ suc n
+      → P r room (b ∷ bs) (record { number = suc n; taken = 1; next = m .byte r b .next; records = m .byte r b .adds }))
+      → ((r : m .Recv) (room b : ℕ) (bs : List ℕ) (g : Reading (m .Recv)) → (m .closes r b && ltb room (m .longest)) ≡ false → m .dead (m .byte r b .next) ≡ 0
+      → P (m .byte r b .next) (room - length (m .byte r b .adds)) bs g → P r room (b ∷ bs) (after (m .byte r b .adds) g))
+      → (r : m .Recv) (room : ℕ) (xs : List ℕ) → P r room xs (read m r room xs)
+  unfolding read
+  read-case P none short ends on r room [] = none r room
+  read-case P none short ends on r room (b ∷ bs) =
+      stop (m .closes r b && ltb room (m .longest)) refl (read-case P none short ends on (m .byte r b .next) (room - length (m .byte r b .adds)) bs)
+    where
+      rest : Reading (m .Recv)
+      rest = read m (m .byte r b .next) (room - length (m .byte r b .adds)) bs
+
+      more : (d : ℕ) → (m .closes r b && ltb room (m .longest)) ≡ false → m .dead (m .byte r b .next) ≡ d
+          → P (m .byte r b .next) (room - length (m .byte r b .adds)) bs rest → P r room (b ∷ bs) (read m r room (b ∷ bs))
+      more zero e d ih = subst (P r room (b ∷ bs)) (sym (read-more r room b bs e d)) (on r room b bs rest e d ih)
+      more (suc n) e d ih = subst (P r room (b ∷ bs)) (sym (read-refused r room b bs n e d)) (ends r room b bs n e d)
+
+      stop : (t : Bool) → (m .closes r b && ltb room (m .longest)) ≡ t → P (m .byte r b .next) (room - length (m .byte r b .adds)) bs rest
+          → P r room (b ∷ bs) (read m r room (b ∷ bs))
+      stop true e ih = subst (P r room (b ∷ bs)) (sym (read-short r room b bs e)) (short r room b bs e)
+      stop false e ih = more (m .dead (m .byte r b .next)) e refl ih
+
   -- the bytes that a reading took, read uncut, come to what the reading came to
   abbrev AsUncut : m .Recv → List ℕ → List Event → Reading (m .Recv) → Type 0
   AsUncut r input es g = uncut m r (map took (take (g .taken) input) ++ es) ≡ fed (g .records) (uncut m (g .next) es)
@@ -52,77 +82,78 @@ module _ (m : Machine) where
   fed-fed a b o = rw append-assoc
 
   pub read-uncut : (r : m .Recv) (room : ℕ) (input : List ℕ) (es : List Event) → AsUncut r input es (read m r room input)
-  unfolding read fed uncut after
-  read-uncut r room [] es = refl
-  read-uncut r room (b ∷ bs) es =
-      stop (read-uncut (m .byte r b .next) (room - length (m .byte r b .adds)) bs es) (m .closes r b && ltb room (m .longest)) refl
-    where
-      s : Step (m .Recv)
-      s = m .byte r b
-
-      rest : Reading (m .Recv)
-      rest = read m (s .next) (room - length (s .adds)) bs
-
-      more : AsUncut (s .next) bs es rest → (d : ℕ) → (m .closes r b && ltb room (m .longest)) ≡ false → m .dead (s .next) ≡ d
-          → AsUncut r (b ∷ bs) es (read m r room (b ∷ bs))
-      more ih zero e d =
-          subst (AsUncut r (b ∷ bs) es) (sym (read-more r room b bs e d))
-          (ap (fed (s .adds)) ih ∙ fed-fed (s .adds) (rest .records) (uncut m (rest .next) es))
-      more ih (suc n) e d = subst (AsUncut r (b ∷ bs) es) (sym (read-refused r room b bs n e d)) refl
-
-      stop : AsUncut (s .next) bs es rest → (t : Bool) → (m .closes r b && ltb room (m .longest)) ≡ t → AsUncut r (b ∷ bs) es (read m r room (b ∷ bs))
-      stop ih true e = subst (AsUncut r (b ∷ bs) es) (sym (read-short r room b bs e)) refl
-      stop ih false e = more ih (m .dead (s .next)) e refl
+  unfolding fed uncut after
+  read-uncut r room input es =
+      read-case (λ r room input g. AsUncut r input es g)
+      (λ r room. refl)
+      (λ r room b bs e. refl)
+      (λ r room b bs n e d. refl)
+      (λ r room b bs g e d ih. ap (fed (m .byte r b .adds)) ih ∙ fed-fed (m .byte r b .adds) (g .records) (uncut m (g .next) es))
+      r room input
 
   -- ---- a feed: refused without change, or a reading
+
+  module _ (r : m .Recv) (input out : List ℕ) where
+    pub feed-small : m .roomy r ≡ false → feed m r input out ≡ unchanged m r out 2
+    unfolding feed
+    feed-small a = rw (a, feed)
+
+    module _ (a : m .roomy r ≡ true) where
+      pub feed-unshaped : m .shaped r ≡ false → feed m r input out ≡ unchanged m r out 3
+      unfolding feed
+      feed-unshaped b = rw (a, b, feed)
+
+      module _ (b : m .shaped r ≡ true) where
+        pub feed-dead : (n : ℕ) → m .dead r ≡ n → (n ≡ 0 → ⊥) → feed m r input out ≡ unchanged m r out n
+        unfolding feed
+        feed-dead zero c h = absurd (h refl)
+        feed-dead (suc n) c h = rw (a, b, c, feed)
+
+        pub feed-short : m .dead r ≡ 0 → ltb (length out) (m .longest) ≡ true → feed m r input out ≡ unchanged m r out 1
+        unfolding feed
+        feed-short c d = rw (a, b, c, d, feed)
+
+        pub feed-reads : m .dead r ≡ 0 → ltb (length out) (m .longest) ≡ false → feed m r input out ≡ wrote m out (read m r (length out) input)
+        unfolding feed
+        feed-reads c d = rw (a, b, c, d, feed)
 
   pub data Fed (r : m .Recv) (input out : List ℕ) : Feed (m .Recv) → Type 0 where
     still : (n : ℕ) → Fed r input out (unchanged m r out n)
     reads : Fed r input out (wrote m out (read m r (length out) input))
 
   pub feed-cases : (r : m .Recv) (input out : List ℕ) → Fed r input out (feed m r input out)
-  unfolding feed
   feed-cases r input out = roomy (m .roomy r) refl
     where
       F : Type 0
       F = Fed r input out (feed m r input out)
 
       short : (t : Bool) → m .roomy r ≡ true → m .shaped r ≡ true → m .dead r ≡ 0 → ltb (length out) (m .longest) ≡ t → F
-      short true a b c d = rw (a, b, c, d, feed) (still 1)
-      short false a b c d = rw (a, b, c, d, feed) reads
+      short true a b c d = subst (Fed r input out) (sym (feed-short r input out a b c d)) (still 1)
+      short false a b c d = subst (Fed r input out) (sym (feed-reads r input out a b c d)) reads
 
       dead : (n : ℕ) → m .roomy r ≡ true → m .shaped r ≡ true → m .dead r ≡ n → F
       dead zero a b c = short (ltb (length out) (m .longest)) a b c refl
-      dead (suc n) a b c = rw (a, b, c, feed) (still (suc n))
+      dead (suc n) a b c = subst (Fed r input out) (sym (feed-dead r input out a b (suc n) c (not-zero n))) (still (suc n))
 
       shaped : (t : Bool) → m .roomy r ≡ true → m .shaped r ≡ t → F
       shaped true a b = dead (m .dead r) a b refl
-      shaped false a b = rw (a, b, feed) (still 3)
+      shaped false a b = subst (Fed r input out) (sym (feed-unshaped r input out a b)) (still 3)
 
       roomy : (t : Bool) → m .roomy r ≡ t → F
       roomy true a = shaped (m .shaped r) a refl
-      roomy false a = rw (a, feed) (still 2)
+      roomy false a = subst (Fed r input out) (sym (feed-small r input out a)) (still 2)
 
   -- ---- the invariant is kept
 
   module _ (k : Keeps m) where
     pub read-keeps : (r : m .Recv) (room : ℕ) (input : List ℕ) → k .Ok r → k .Ok (read m r room input .next)
-    unfolding read after
-    read-keeps r room [] h = h
-    read-keeps r room (b ∷ bs) h =
-        stop (read-keeps (m .byte r b .next) (room - length (m .byte r b .adds)) bs (k .byte r b h)) (m .closes r b && ltb room (m .longest)) refl
-      where
-        K : Reading (m .Recv) → Type 0
-        K g = k .Ok (g .next)
-
-        more : K (read m (m .byte r b .next) (room - length (m .byte r b .adds)) bs) → (d : ℕ) → (m .closes r b && ltb room (m .longest)) ≡ false
-            → m .dead (m .byte r b .next) ≡ d → K (read m r room (b ∷ bs))
-        more ih zero e d = subst K (sym (read-more r room b bs e d)) ih
-        more ih (suc n) e d = subst K (sym (read-refused r room b bs n e d)) (k .byte r b h)
-
-        stop : K (read m (m .byte r b .next) (room - length (m .byte r b .adds)) bs) → (t : Bool) → (m .closes r b && ltb room (m .longest)) ≡ t → K (read m r room (b ∷ bs))
-        stop ih true e = subst K (sym (read-short r room b bs e)) h
-        stop ih false e = more ih (m .dead (m .byte r b .next)) e refl
+    unfolding after
+    read-keeps =
+        read-case (λ r room input g. k .Ok r → k .Ok (g .next))
+        (λ r room h. h)
+        (λ r room b bs e h. h)
+        (λ r room b bs n e d h. k .byte r b h)
+        (λ r room b bs g e d ih h. ih (k .byte r b h))
 
     pub feed-keeps : (r : m .Recv) (input out : List ℕ) → k .Ok r → k .Ok (feed m r input out .next)
     unfolding unchanged wrote
@@ -192,30 +223,16 @@ module _ (m : Machine) where
     adds-fit r room b h false c e = rw (quiet r b c) (omega arith)
 
     pub read-fits : (r : m .Recv) (room : ℕ) (input : List ℕ) → k .Ok r → length (read m r room input .records) ≤ room
-    unfolding read after
-    read-fits r room [] h = omega arith
-    read-fits r room (b ∷ bs) h =
-        stop (read-fits (m .byte r b .next) (room - length (m .byte r b .adds)) bs (k .byte r b h)) (m .closes r b && ltb room (m .longest)) refl
-      where
-        K : Reading (m .Recv) → Type 0
-        K g = length (g .records) ≤ room
-
-        s : Step (m .Recv)
-        s = m .byte r b
-
-        rest : Reading (m .Recv)
-        rest = read m (s .next) (room - length (s .adds)) bs
-
-        more : length (rest .records) ≤ room - length (s .adds) → (d : ℕ) → (m .closes r b && ltb room (m .longest)) ≡ false
-            → m .dead (s .next) ≡ d → K (read m r room (b ∷ bs))
-        more ih zero e d =
-            let l : length (s .adds) ≤ room = adds-fit r room b h (m .closes r b) refl e in
-            subst K (sym (read-more r room b bs e d)) (rw (length-append (s .adds) (rest .records)) (omega arith))
-        more ih (suc n) e d = subst K (sym (read-refused r room b bs n e d)) (adds-fit r room b h (m .closes r b) refl e)
-
-        stop : length (rest .records) ≤ room - length (s .adds) → (t : Bool) → (m .closes r b && ltb room (m .longest)) ≡ t → K (read m r room (b ∷ bs))
-        stop ih true e = subst K (sym (read-short r room b bs e)) (omega arith)
-        stop ih false e = more ih (m .dead (s .next)) e refl
+    unfolding after
+    read-fits =
+        read-case (λ r room input g. k .Ok r → length (g .records) ≤ room)
+        (λ r room h. omega arith)
+        (λ r room b bs e h. omega arith)
+        (λ r room b bs n e d h. adds-fit r room b h (m .closes r b) refl e)
+        (λ r room b bs g e d ih h.
+        let l : length (m .byte r b .adds) ≤ room = adds-fit r room b h (m .closes r b) refl e in
+        let i = ih (k .byte r b h) in
+        rw (length-append (m .byte r b .adds) (g .records)) (omega arith))
 
     pub feed-length : (r : m .Recv) (input out : List ℕ) → k .Ok r → length (feed m r input out .output) ≡ length out
     unfolding unchanged wrote

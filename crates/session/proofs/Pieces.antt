@@ -10,7 +10,7 @@ use native.Mathlib.Omega.{arith}
 use lib.ListN.{length, length-append}
 use lib.Dec.{ltb}
 use Rattle.session.specs.Session.{Machine, Step, Reading, after, read}
-use Rattle.session.proofs.Laws.{behind, read-short, read-refused, read-more}
+use Rattle.session.proofs.Laws.{not-zero, behind, read-short, read-refused, read-more, read-case}
 
 after-behind : {R : Type 0} (new recs : List ℕ) (n : ℕ) (g : Reading R) → after new (behind n recs g) ≡ behind (suc n) (new ++ recs) g
 unfolding after
@@ -23,129 +23,65 @@ after-none g = rw (suc-add, zero-add)
 room-left : (room : ℕ) (a b : List ℕ) → room - length a - length b ≡ room - length (a ++ b)
 room-left room a b = rw (length-append a b) (omega arith)
 
-not-zero : (n : ℕ) → suc n ≡ 0 → ⊥
-not-zero n e = omega arith
-
 module _ (m : Machine) where
   -- ---- an input in two pieces
 
-  -- what a reading g of the first piece says of the reading of both, as long as the first piece is read to its end
-  abbrev On : ℕ → List ℕ → Reading (m .Recv) → Reading (m .Recv) → Type 0
-  On room ys whole g = g .number ≡ 0 → whole ≡ behind (g .taken) (g .records) (read m (g .next) (room - length (g .records)) ys)
-
   -- a piece that is read to its end: the rest is read on from there
   pub read-on : (r : m .Recv) (room : ℕ) (xs ys : List ℕ) → read m r room xs .number ≡ 0
-      → read m r room (xs ++ ys)
-      ≡ behind (read m r room xs .taken) (read m r room xs .records) (read m (read m r room xs .next) (room - length (read m r room xs .records)) ys)
+      → read m r room (xs ++ ys) ≡ behind (read m r room xs .taken) (read m r room xs .records) (read m (read m r room xs .next) (room - length (read m r room xs .records)) ys)
   unfolding read after
-  read-on r room [] ys z = rw (sub-zero, zero-add)
-  read-on r room (b ∷ bs) ys z =
-      stop (read-on (m .byte r b .next) (room - length (m .byte r b .adds)) bs ys) (m .closes r b && ltb room (m .longest)) refl z
-    where
-      s : Step (m .Recv)
-      s = m .byte r b
-
-      left : ℕ
-      left = room - length (s .adds)
-
-      rest : Reading (m .Recv)
-      rest = read m (s .next) left bs
-
-      K : Reading (m .Recv) → Type 0
-      K g = On room ys (read m r room (b ∷ (bs ++ ys))) g
-
-      joined : On left ys (read m (s .next) left (bs ++ ys)) rest → On room ys (after (s .adds) (read m (s .next) left (bs ++ ys))) (after (s .adds) rest)
-      joined ih e =
-          ap (after (s .adds)) (ih e) ∙ after-behind (s .adds) (rest .records) (rest .taken) (read m (rest .next) (left - length (rest .records)) ys)
-          ∙ ap (λ (k : ℕ). behind (suc (rest .taken)) (s .adds ++ rest .records) (read m (rest .next) k ys)) (room-left room (s .adds) (rest .records))
-
-      more : On left ys (read m (s .next) left (bs ++ ys)) rest → (d : ℕ) → (m .closes r b && ltb room (m .longest)) ≡ false
-          → m .dead (s .next) ≡ d → K (read m r room (b ∷ bs))
-      more ih zero e d = subst K (sym (read-more m r room b bs e d)) (λ o. read-more m r room b (bs ++ ys) e d ∙ joined ih o)
-      more ih (suc n) e d = subst K (sym (read-refused m r room b bs n e d)) (λ o. absurd (not-zero n o))
-
-      stop : On left ys (read m (s .next) left (bs ++ ys)) rest → (t : Bool) → (m .closes r b && ltb room (m .longest)) ≡ t
-          → K (read m r room (b ∷ bs))
-      stop ih true e = subst K (sym (read-short m r room b bs e)) (λ o. absurd (not-zero 4 o))
-      stop ih false e = more ih (m .dead (s .next)) e refl
+  read-on r room xs ys =
+      read-case m (λ r room xs g. g .number ≡ 0 → read m r room (xs ++ ys) ≡ behind (g .taken) (g .records) (read m (g .next) (room - length (g .records)) ys))
+      (λ r room z. rw (sub-zero, zero-add))
+      (λ r room b bs e z. absurd (not-zero 4 z))
+      (λ r room b bs n e d z. absurd (not-zero n z))
+      (λ r room b bs g e d ih z.
+      read-more m r room b (bs ++ ys) e d
+      ∙ ap (after (m .byte r b .adds)) (ih z)
+      ∙ after-behind (m .byte r b .adds) (g .records) (g .taken) (read m (g .next) (room - length (m .byte r b .adds) - length (g .records)) ys)
+      ∙ ap (λ (k : ℕ). behind (suc (g .taken)) (m .byte r b .adds ++ g .records) (read m (g .next) k ys)) (room-left room (m .byte r b .adds) (g .records)))
+      r room xs
 
   -- a piece that ends the call: the rest is not looked at
   pub read-stops : (r : m .Recv) (room : ℕ) (xs ys : List ℕ) → (read m r room xs .number ≡ 0 → ⊥) → read m r room (xs ++ ys) ≡ read m r room xs
-  unfolding read after
-  read-stops r room [] ys h = absurd (h refl)
-  read-stops r room (b ∷ bs) ys h =
-      stop (read-stops (m .byte r b .next) (room - length (m .byte r b .adds)) bs ys) (m .closes r b && ltb room (m .longest)) refl h
-    where
-      s : Step (m .Recv)
-      s = m .byte r b
-
-      left : ℕ
-      left = room - length (s .adds)
-
-      Stops : Reading (m .Recv) → Reading (m .Recv) → Type 0
-      Stops whole g = (g .number ≡ 0 → ⊥) → whole ≡ g
-
-      K : Reading (m .Recv) → Type 0
-      K = Stops (read m r room (b ∷ (bs ++ ys)))
-
-      more : Stops (read m (s .next) left (bs ++ ys)) (read m (s .next) left bs) → (d : ℕ) → (m .closes r b && ltb room (m .longest)) ≡ false
-          → m .dead (s .next) ≡ d → K (read m r room (b ∷ bs))
-      more ih zero e d = subst K (sym (read-more m r room b bs e d)) (λ o. read-more m r room b (bs ++ ys) e d ∙ ap (after (s .adds)) (ih o))
-      more ih (suc n) e d = subst K (sym (read-refused m r room b bs n e d)) (λ o. read-refused m r room b (bs ++ ys) n e d)
-
-      stop : Stops (read m (s .next) left (bs ++ ys)) (read m (s .next) left bs) → (t : Bool) → (m .closes r b && ltb room (m .longest)) ≡ t
-          → K (read m r room (b ∷ bs))
-      stop ih true e = subst K (sym (read-short m r room b bs e)) (λ o. read-short m r room b (bs ++ ys) e)
-      stop ih false e = more ih (m .dead (s .next)) e refl
-
-  -- ---- what is taken of a piece
+  unfolding after
+  read-stops r room xs ys =
+      read-case m (λ r room xs g. (g .number ≡ 0 → ⊥) → read m r room (xs ++ ys) ≡ g)
+      (λ r room h. absurd (h refl))
+      (λ r room b bs e h. read-short m r room b (bs ++ ys) e)
+      (λ r room b bs n e d h. read-refused m r room b (bs ++ ys) n e d)
+      (λ r room b bs g e d ih h. read-more m r room b (bs ++ ys) e d ∙ ap (after (m .byte r b .adds)) (ih h))
+      r room xs
 
   -- a piece that is read to its end is taken whole
   pub read-all : (r : m .Recv) (room : ℕ) (xs : List ℕ) → read m r room xs .number ≡ 0 → read m r room xs .taken ≡ length xs
-  unfolding read after
-  read-all r room [] z = refl
-  read-all r room (b ∷ bs) z =
-      stop (read-all (m .byte r b .next) (room - length (m .byte r b .adds)) bs) (m .closes r b && ltb room (m .longest)) refl z
-    where
-      s : Step (m .Recv)
-      s = m .byte r b
-
-      All : List ℕ → Reading (m .Recv) → Type 0
-      All l g = g .number ≡ 0 → g .taken ≡ length l
-
-      more : All bs (read m (s .next) (room - length (s .adds)) bs) → (d : ℕ) → (m .closes r b && ltb room (m .longest)) ≡ false
-          → m .dead (s .next) ≡ d → All (b ∷ bs) (read m r room (b ∷ bs))
-      more ih zero e d = subst (All (b ∷ bs)) (sym (read-more m r room b bs e d)) (λ o. ap suc (ih o))
-      more ih (suc n) e d = subst (All (b ∷ bs)) (sym (read-refused m r room b bs n e d)) (λ o. absurd (not-zero n o))
-
-      stop : All bs (read m (s .next) (room - length (s .adds)) bs) → (t : Bool) → (m .closes r b && ltb room (m .longest)) ≡ t
-          → All (b ∷ bs) (read m r room (b ∷ bs))
-      stop ih true e = subst (All (b ∷ bs)) (sym (read-short m r room b bs e)) (λ o. absurd (not-zero 4 o))
-      stop ih false e = more ih (m .dead (s .next)) e refl
+  unfolding after
+  read-all =
+      read-case m (λ r room xs g. g .number ≡ 0 → g .taken ≡ length xs)
+      (λ r room z. refl)
+      (λ r room b bs e z. absurd (not-zero 4 z))
+      (λ r room b bs n e d z. absurd (not-zero n z))
+      (λ r room b bs g e d ih z. ap suc (ih z))
 
   -- never more is taken than there is
   pub read-within : (r : m .Recv) (room : ℕ) (xs : List ℕ) → read m r room xs .taken ≤ length xs
-  unfolding read after
-  read-within r room [] = omega arith
-  read-within r room (b ∷ bs) =
-      stop (read-within (m .byte r b .next) (room - length (m .byte r b .adds)) bs) (m .closes r b && ltb room (m .longest)) refl
-    where
-      s : Step (m .Recv)
-      s = m .byte r b
+  unfolding after
+  read-within =
+      read-case m (λ r room xs g. g .taken ≤ length xs)
+      (λ r room. omega arith)
+      (λ r room b bs e. omega arith)
+      (λ r room b bs n e d. omega arith)
+      (λ r room b bs g e d ih. omega arith)
 
-      rest : Reading (m .Recv)
-      rest = read m (s .next) (room - length (s .adds)) bs
-
-      K : Reading (m .Recv) → Type 0
-      K g = g .taken ≤ suc (length bs)
-
-      more : rest .taken ≤ length bs → (d : ℕ) → (m .closes r b && ltb room (m .longest)) ≡ false → m .dead (s .next) ≡ d → K (read m r room (b ∷ bs))
-      more ih zero e d = subst K (sym (read-more m r room b bs e d)) (omega arith)
-      more ih (suc n) e d = subst K (sym (read-refused m r room b bs n e d)) (omega arith)
-
-      stop : rest .taken ≤ length bs → (t : Bool) → (m .closes r b && ltb room (m .longest)) ≡ t → K (read m r room (b ∷ bs))
-      stop ih true e = subst K (sym (read-short m r room b bs e)) (omega arith)
-      stop ih false e = more ih (m .dead (s .next)) e refl
+  -- a receiver that was live before a reading to the end is live after it
+  pub read-live : (r : m .Recv) (room : ℕ) (xs : List ℕ) → m .dead r ≡ 0 → read m r room xs .number ≡ 0 → m .dead (read m r room xs .next) ≡ 0
+  unfolding after
+  read-live =
+      read-case m (λ r room xs g. m .dead r ≡ 0 → g .number ≡ 0 → m .dead (g .next) ≡ 0)
+      (λ r room l z. l)
+      (λ r room b bs e l z. absurd (not-zero 4 z))
+      (λ r room b bs n e d l z. absurd (not-zero n z))
+      (λ r room b bs g e d ih l z. ih d z)
 
   -- ---- a single byte
 

@@ -1,0 +1,18 @@
+-- `Channel::accepted` meets its contract, by what the two calls ensure.
+-- Assumes nothing.
+use borrow.Author.Needs.{needs}
+use Rattle.channel.proofs.Channel.accepted.Statement.{statement}
+use Rattle.channel.proofs.Channel.accepted.Tie as tie
+
+returns : tie.Need-returns
+returns c = rw (c .before .with-slot .ensures, c .ends .ensures)
+
+pub accepted-spec : {M : Type 1} → statement M
+accepted-spec =
+    tie.close
+    (tie.spec
+    (λ c. search needs)
+    (λ c κs. search needs)
+    (λ c κs. search needs)
+    (λ c. search needs)
+    returns)

@@ -1,0 +1,59 @@
+-- `Channel::judge` meets its contract: rules 12 to 23 refuse the frame, or a command, data or settings go on to the rules left.
+-- Assumes nothing.
+use Prim.Native.Nat.{ℕ, _≤_}
+use mathlib.Core.Path.{_≡_, sym, _∙_}
+use mathlib.Core.List.{List, []}
+use lib.ListN.{length, length-map}
+use borrow.Author.Needs.{needs}
+use Rattle.frame.specs.declared.Header.{Header}
+use Rattle.frame.specs.Limits.{maxPayload, slotCount, workArea}
+use Rattle.frame.specs.Header.{lengthOf, headerOf}
+use Rattle.frame.specs.Frame.{framed, frameOf}
+use Rattle.rules.specs.declared.Met.{Met}
+use Rattle.rules.specs.Rules.{firstBroken}
+use Rattle.rules.specs.Stages.{viewed, headRules}
+use Rattle.channel.specs.declared.Channel.{Channel}
+use Rattle.channel.specs.declared.Fed.{Fed}
+use Rattle.channel.specs.Receiver as receiver
+use Rattle.channel.specs.Channel.{fedWith}
+use Rattle.channel.specs.Steps.{putFrom, stepped, metOf, refusedWith}
+use Rattle.channel.proofs.JudgeLaws.{answers-head}
+use Rattle.channel.proofs.Channel.judge.Statement.{statement}
+use Rattle.channel.proofs.Channel.judge.Tie as tie
+
+-- a frame that rules 12 to 23 refuse, over plain values
+refuses : (s : Channel) (h : Header) (m : Met) (w out : List ℕ) (done n : ℕ) (r : Fed) → (workArea ≤ length w) × (lengthOf w ≤ maxPayload) × (s .dead ≡ 0)
+    → length (s .slots) ≡ slotCount → h ≡ headerOf w → m ≡ metOf s h → n ≡ firstBroken headRules (framed h []) (viewed m h []) → (n ≡ 0 → ⊥)
+    → r ≡ refusedWith s n → fedWith r w out ≡ putFrom out done (stepped (receiver.judge s (frameOf w) w))
+refuses s h m w out done n r p count h-is m-is n-is o r-is =
+    rw r-is (sym (answers-head s w out done (p .0) (p .1) count (p .2) n (sym (rw (m-is, h-is) at n-is)) o))
+
+-- the number of the slots stands in what the parameter is handed with
+eight : (b : tie.Start) → length (b .args .self .slots) ≡ slotCount
+eight b = sym (length-map (b .args .self .slots) _) ∙ b .good .0 .1 .1 .1 .1 .0 .1 .0 .1
+
+returns : tie.Need-returns
+returns c =
+    let n = c .before .before in
+    let x = n .before .before in
+    let b = x .before .before .before .before in
+    refuses _ _ _ _ _ _ _ _ (b .pre) (eight b) (x .read-header .ensures) (n .before .met .ensures) (n .head-number .ensures) (c .before .if1 .taken) (c .refused .ensures)
+
+pub judge-spec : {M : Type 1} → statement M
+judge-spec =
+    tie.close
+    (tie.spec
+    (λ c κs. search needs)
+    (λ c κs. search needs)
+    (λ c κs. search needs)
+    (λ c κs. search needs)
+    (λ c. search needs)
+    returns
+    (λ c κs. search needs)
+    (λ c. search needs)
+    (λ c. search needs)
+    (λ c. search needs)
+    (λ c κs. search needs)
+    (λ c. search needs)
+    (λ c. search needs)
+    (λ c. search needs))

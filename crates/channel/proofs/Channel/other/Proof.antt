@@ -1,0 +1,128 @@
+-- `Channel::other` meets its contract: the rules that are left refuse the frame, or it is taken as data or as settings.
+-- Assumes nothing.
+use Prim.Native.Nat.{ℕ, _+_, _-_, _≤_}
+use mathlib.Core.Path.{_≡_, sym, ap, _∙_}
+use mathlib.Core.Bool.{Bool}
+use mathlib.Core.List.{List, []}
+use native.Mathlib.Omega.{arith}
+use lib.ListN.{length, take, drop, getD, length-map}
+use borrow.Author.Needs.{needs}
+use Rattle.buffer.specs.Bytes.{write}
+use Rattle.frame.specs.declared.Header.{Header}
+use Rattle.frame.specs.Limits.{maxPayload, slotCount, workArea}
+use Rattle.frame.specs.Header.{lengthOf, headerOf}
+use Rattle.frame.specs.Frame.{framed, frameOf, isLast}
+use Rattle.frame.specs.Records.{requestRecord}
+use Rattle.requests.specs.declared.Slot.{Slot}
+use Rattle.requests.specs.Phases.{freeSlot}
+use Rattle.rules.specs.declared.Met.{Met}
+use Rattle.rules.specs.Rules.{firstBroken}
+use Rattle.rules.specs.Stages.{viewed, headRules, lastRules}
+use Rattle.session.specs.Session.{Feed}
+use Rattle.channel.specs.declared.Channel.{Channel}
+use Rattle.channel.specs.declared.Fed.{Fed}
+use Rattle.channel.specs.Receiver.{Receiver, slotAt, dataSlot, judge}
+use Rattle.channel.specs.Channel.{fedWith}
+use Rattle.channel.specs.Steps.{putFrom, stepped, metOf, refusedWith, acceptedWith}
+use Rattle.channel.proofs.JudgeLaws.{answers-last, answers-data, answers-settings}
+use Rattle.channel.proofs.Channel.other.Statement.{statement}
+use Rattle.channel.proofs.Channel.other.Tie as tie
+
+-- the contract over plain values, with what the caller shows and the number of the slots
+module _ (s : Channel) (h : Header) (m : Met) (w out : List ℕ) (done : ℕ)
+    (p : (workArea ≤ length w) × (lengthOf w ≤ maxPayload) × (s .dead ≡ 0) × (h ≡ headerOf w) × (m ≡ metOf s h) × (h .kind ≡ 1 → ⊥)
+    × (firstBroken headRules (framed h []) (viewed m h []) ≡ 0))
+    (count : length (s .slots) ≡ slotCount) where
+  abbrev goal : Feed Receiver
+  goal = putFrom out done (stepped (judge s (frameOf w) w))
+
+  -- the payload, as the code cuts it out
+  abbrev payload : List ℕ
+  payload = take (8 + h .length - 8) (drop 8 w)
+
+  abbrev number : ℕ
+  number = firstBroken lastRules (framed h payload) (viewed m h [])
+
+  abbrev new : Bool → List ℕ
+  new last = requestRecord 2 (h .request) last payload
+
+  cut : 8 + h .length - 8 ≡ h .length
+  cut = omega arith
+
+  head : firstBroken headRules (framed (headerOf w) []) (viewed (metOf s (headerOf w)) (headerOf w) []) ≡ 0
+  head = rw (p .4, p .3) at (p .6)
+
+  refuses : (n : ℕ) (r : Fed) → n ≡ number → (n ≡ 0 → ⊥) → r ≡ refusedWith s n → fedWith r w out ≡ goal
+  refuses n r q o r-is =
+      rw r-is
+      (sym (answers-last s w out done (p .0) (p .1) count (p .2) head (rw (p .3) at (p .5)) n (sym (rw (cut, p .4, p .3) at q)) o))
+
+  takes-data : (n k : ℕ) (x y : Slot) (last : Bool) (after : List ℕ) (r : Fed) → n ≡ number → n ≡ 0 → h .kind ≡ 2
+      → x ≡ getD (s .slots) (m .place) freeSlot → y ≡ dataSlot x (framed h []) → last ≡ isLast (framed h [])
+      → (k ≡ length (new last)) × (after ≡ write out done (new last)) → r ≡ acceptedWith s h (m .place) y k → fedWith r w after ≡ goal
+  unfolding slotAt
+  takes-data n k x y last after r q z t x-is y-is last-is (k-is, after-is) r-is =
+      rw (r-is, y-is, x-is, k-is, after-is, last-is, cut, p .4, p .3)
+      (sym (answers-data s w out done (p .0) (p .1) count (p .2) head (rw (p .3) at (p .5)) (sym (rw (cut, p .4, p .3) at q) ∙ z) (rw (p .3) at t)))
+
+  takes-settings : (n : ℕ) (x : Slot) (r : Fed) → n ≡ number → n ≡ 0 → (h .kind ≡ 2 → ⊥) → x ≡ freeSlot → r ≡ acceptedWith s h 8 x 0 → fedWith r w out ≡ goal
+  takes-settings n x r q z t x-is r-is =
+      rw (r-is, x-is, p .3)
+      (sym (answers-settings s w out done (p .0) (p .1) count (p .2) head (rw (p .3) at (p .5)) (sym (rw (cut, p .4, p .3) at q) ∙ z) (rw (p .3) at t)))
+
+module _ (b : tie.Start) where
+  small : b .args .h .length ≤ maxPayload
+  unfolding headerOf
+  small = omega (arith, ap (λ (h : Header). h .length) (b .pre .3))
+
+  -- the number of the slots stands in what the parameter is handed with
+  eight : length (b .args .self .slots) ≡ slotCount
+  eight = sym (length-map (b .args .self .slots) _) ∙ b .good .0 .1 .1 .1 .1 .0 .1 .0 .1
+
+returns : tie.Need-returns
+returns c =
+    let l = c .before .before in
+    let b = l .before .before .before .before .before in
+    refuses _ _ _ _ _ _ (b .pre) (eight b) _ _ (l .last-number .ensures) (c .before .if1 .taken) (c .refused .ensures)
+
+returns-2 : tie.Need-returns-2
+returns-2 c =
+    let r = c .before .before .before in
+    let x = r .before .before .before .before .before in
+    let i = x .before .before in
+    let l = i .before .before .before in
+    let b = l .before .before .before .before .before in
+    takes-data _ _ _ _ _ _ (b .pre) (eight b) _ _ _ _ _ _ _ (l .last-number .ensures) (i .before .before .if1 .left) (i .if2 .taken) (x .slot-at .ensures)
+    (r .before .before .before .before .data-slot .ensures) (r .before .before .is-last .ensures) (r .put-record .ensures) (c .accepted .ensures)
+
+returns-3 : tie.Need-returns-3
+returns-3 c =
+    let i = c .before .before in
+    let l = i .before .before .before in
+    let b = l .before .before .before .before .before in
+    takes-settings _ _ _ _ _ _ (b .pre) (eight b) _ _ _ (l .last-number .ensures) (i .before .before .if1 .left) (i .if2 .left) (c .before .free .ensures) (c .accepted2 .ensures)
+
+pub other-spec : {M : Type 1} → statement M
+other-spec =
+    tie.close
+    (tie.spec
+    (λ c. omega (arith, small (c .before .before .before)))
+    (λ c. search needs)
+    (λ c. search needs)
+    (λ c. omega (arith, small (c .before .before .before)))
+    (λ c κs. search needs)
+    (λ c κs. search needs)
+    returns
+    (λ c κs. search needs)
+    (λ c κs. search needs)
+    (λ c κs. search needs)
+    (λ c. search needs)
+    (λ c. search needs)
+    (λ c. omega (arith, small (c .before .before .before .before .before .before .before .before .before .before .before .before .before)))
+    (λ c κs. search needs)
+    (λ c κs. search needs)
+    (λ c. search needs)
+    returns-2
+    (λ c κs. search needs)
+    (λ c κs. search needs)
+    returns-3)

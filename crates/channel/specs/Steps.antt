@@ -1,0 +1,62 @@
+-- What the private functions under feed answer, by the definitions of the receiver and of reading.
+-- These are definitions: they assume nothing.
+use Prim.Native.Nat.{ℕ, suc, _+_, _-_, _/_, min}
+use mathlib.Core.Bool.{cond, not}
+use mathlib.Core.List.{List, []}
+use lib.ListN.{length, set}
+use lib.Dec.{leb, ltb}
+use Rattle.buffer.specs.Bytes.{write}
+use Rattle.frame.specs.declared.Header.{Header}
+use Rattle.frame.specs.Frame.{framed, ends}
+use Rattle.requests.specs.declared.Slot.{Slot}
+use Rattle.rules.specs.declared.Met.{Met}
+use Rattle.session.specs.Session.{Step, Reading, Feed}
+use Rattle.channel.specs.declared.Channel.{Channel}
+use Rattle.channel.specs.declared.Fed.{Fed}
+use Rattle.channel.specs.Receiver.{Receiver, slotAt, slotOf, placeOf, lowestFree, target, streamOpen}
+
+abbrev pub receiver : Channel → List ℕ → Receiver
+receiver s w = record { state = s; work = w }
+
+-- a reading whose records are put into the output from a place on
+abbrev pub putFrom : List ℕ → ℕ → Reading Receiver → Feed Receiver
+putFrom out done g = record { number = g .number; taken = g .taken; written = length (g .records); next = g .next; output = write out done (g .records) }
+
+-- the reading of one byte that 5 does not stop before
+abbrev pub stepped : Step Receiver → Reading Receiver
+stepped t = record { number = t .next .state .dead; taken = 1; next = t .next; records = t .adds }
+
+-- what the frame of a header meets
+abbrev pub metOf : Channel → Header → Met
+metOf s h =
+    let f = framed h [] in
+    record {
+      «is_open» = streamOpen s f;
+      place = placeOf s (h .request);
+      phase = slotOf s (h .request) .phase;
+      databit = slotOf s (h .request) .databit;
+      full = leb (length (s .slots)) (lowestFree s);
+      target = target s f;
+      held = slotAt s (target s f) .length;
+    }
+
+-- a call that takes nothing
+abbrev pub stillWith : Channel → ℕ → Fed
+stillWith s n = record { number = n; taken = 0; written = 0; channel = s }
+
+-- a byte that refuses its frame
+abbrev pub refusedWith : Channel → ℕ → Fed
+refusedWith s n = record { number = n; taken = 1; written = 0; channel = record { dead = n; pending = 0; slots = s .slots; streams = s .streams } }
+
+-- a byte whose frame is accepted, with the slot that it leaves at a place and the length of its record
+abbrev pub acceptedWith : Channel → Header → ℕ → Slot → ℕ → Fed
+acceptedWith s h i x n = record {
+  number = 0;
+  taken = 1;
+  written = n;
+  channel = record { dead = s .dead; pending = 0; slots = set (s .slots) i x; streams = set (s .streams) (h .stream / 2) (not (ends (framed h []))) };
+}
+
+-- how many of these bytes can be put before one is judged: up to the eighth of the frame, or up to its last
+unfoldable pub quietCount : ℕ → ℕ → ℕ → ℕ
+quietCount pending size left = cond (ltb pending 8) (min left (7 - pending)) (min left (7 + size - pending))

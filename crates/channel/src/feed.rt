@@ -1,0 +1,166 @@
+// One call's reading of its input.
+use crate::Channel;
+use crate::Fed;
+ghost use mathlib.Core.Path.{_≡_};
+ghost use mathlib.Core.Bool.{true};
+ghost use mathlib.Core.List.{[], _∷_};
+ghost use Prim.Native.Nat.{suc, _+_, _-_, _≤_, _<_};
+ghost use lib.ListN.{length, take};
+ghost use Rattle.frame.specs.Header.{lengthOf};
+ghost use Rattle.session.specs.Session.{read};
+ghost use Rattle.channel.specs.Channel.{channel, fedWith, feedOf, heldShape, shape};
+ghost use Rattle.channel.specs.Steps.{receiver, putFrom, stillWith, quietCount};
+
+impl Channel {
+    // The answer of a call that takes nothing.
+    fn still(self, n: u8) -> Fed
+        ensures { λ r. ⌜ r ≡ stillWith self n ⌝ }
+    {
+        Fed {
+            number: n,
+            taken: 0,
+            written: 0,
+            channel: self,
+        }
+    }
+
+    // How many of left bytes can be put before one is judged.
+    fn quiet(self, work: &[u8], left: usize) -> usize
+        requires { ⌜ heldShape (receiver self (now work)) ≡ true ⌝ }
+        ensures { λ r. ⌜ r ≡ quietCount (self .pending) (lengthOf (now (work .entry))) left ⌝ }
+    {
+        let mut most = 7;
+        if 8 <= self.pending {
+            most += frame::payload_length(work);
+        }
+        most -= self.pending;
+        if left < most {
+            return left;
+        }
+        most
+    }
+
+    // Takes a byte that is judged.
+    fn take_byte(self, work: &mut [u8], b: u8, out: &mut [u8], done: usize) -> Fed
+        requires { ⌜ (20488 ≤ length (now work)) × (self .dead ≡ 0) × (done ≤ length (now out)) × (heldShape (receiver self (now work)) ≡ true) × (quietCount (self .pending) (lengthOf (now work)) 1 ≡ 0) ⌝ }
+        ensures { λ r. ⌜ fedWith r (now (work .exit)) (now (out .exit)) ≡ putFrom (now (out .entry)) done (read channel (receiver self (now (work .entry))) (length (now (out .entry)) - done) (b ∷ [])) ⌝ }
+    {
+        let at = self.pending;
+        let n = frame::payload_length(&work[..]);
+        if at - 7 == n {
+            if out.len() - done < 4103 {
+                return self.still(5);
+            }
+            work[at] = b;
+            return self.judge(work, out, done);
+        }
+        work[at] = b;
+        if 4096 < n {
+            return self.refused(11);
+        }
+        let mut next = self;
+        next.pending = 8;
+        Fed {
+            number: 0,
+            taken: 1,
+            written: 0,
+            channel: next,
+        }
+    }
+
+    // Takes the bytes up to the next one that is judged, and that one.
+    fn take_piece(self, work: &mut [u8], rest: &[u8], out: &mut [u8], done: usize) -> Fed
+        requires { ⌜ (20488 ≤ length (now work)) × (self .dead ≡ 0) × (done ≤ length (now out)) × (shape (receiver self (now work)) ≡ true) ⌝ }
+        ensures { λ r. ⌜ fedWith r (now (work .exit)) (now (out .exit)) ≡ putFrom (now (out .entry)) done (read channel (receiver self (now (work .entry))) (length (now (out .entry)) - done) (take (suc (quietCount (self .pending) (lengthOf (now (work .entry))) (length (now (rest .entry))))) (now (rest .entry)))) ⌝ }
+    {
+        let q = self.quiet(&work[..], rest.len());
+        let pending = self.pending;
+        buffer::put(work, pending, &rest[..q]);
+        let mut next = self;
+        next.pending = pending + q;
+        if q == rest.len() {
+            return Fed {
+                number: 0,
+                taken: q,
+                written: 0,
+                channel: next,
+            };
+        }
+        let last = next.take_byte(work, rest[q], out, done);
+        let channel = last.channel;
+        Fed {
+            number: last.number,
+            taken: q + last.taken,
+            written: last.written,
+            channel,
+        }
+    }
+
+    // Reads the input, piece after piece.
+    fn read(self, work: &mut [u8], input: &[u8], out: &mut [u8]) -> Fed
+        requires { ⌜ (20488 ≤ length (now work)) × (self .dead ≡ 0) × (shape (receiver self (now work)) ≡ true) ⌝ }
+        ensures { λ r. ⌜ fedWith r (now (work .exit)) (now (out .exit)) ≡ putFrom (now (out .entry)) 0 (read channel (receiver self (now (work .entry))) (length (now (out .entry))) (now (input .entry))) ⌝ }
+    {
+        let mut next = self;
+        let mut taken = 0;
+        let mut written = 0;
+        while taken < input.len() {
+            let piece = next.take_piece(work, &input[taken..], out, written);
+            taken += piece.taken;
+            written += piece.written;
+            let channel = piece.channel;
+            next = channel;
+            if piece.number != 0 {
+                return Fed {
+                    number: piece.number,
+                    taken,
+                    written,
+                    channel: next,
+                };
+            }
+        }
+        Fed {
+            number: 0,
+            taken,
+            written,
+            channel: next,
+        }
+    }
+
+    // Whether rule 3 does not apply.
+    fn is_shaped(self, work: &[u8]) -> bool
+        ensures { λ r. ⌜ r ≡ shape (receiver self (now (work .entry))) ⌝ }
+    {
+        if !self.is_plain() {
+            return false;
+        }
+        if self.pending < 8 {
+            return true;
+        }
+        let n = frame::payload_length(work);
+        if 4096 < n {
+            return false;
+        }
+        self.pending < 8 + n
+    }
+
+    // Takes bytes of the input and writes the records of the frames that they complete: 2, 3, the dead number or 1, and nothing changes;
+    // else 0 at the input's end, 5 before a byte that needs more output, or the number of the frame refused.
+    pub fn feed(self, work: &mut [u8], input: &[u8], out: &mut [u8]) -> Fed
+        ensures { λ r. ⌜ fedWith r (now (work .exit)) (now (out .exit)) ≡ feedOf self (now (work .entry)) (now (input .entry)) (now (out .entry)) ⌝ }
+    {
+        if work.len() < 20488 {
+            return self.still(2);
+        }
+        if !self.is_shaped(&work[..]) {
+            return self.still(3);
+        }
+        if self.dead != 0 {
+            return self.still(self.dead);
+        }
+        if out.len() < 4103 {
+            return self.still(1);
+        }
+        self.read(work, input, out)
+    }
+}

@@ -1,0 +1,82 @@
+-- The rules by their stages: what the first twelve leave to the others, and what the others say of each kind of frame.
+-- Assumes nothing.
+use Prim.Native.Nat.{ℕ, zero, suc, _≤_, _<_}
+use mathlib.Core.Path.{_≡_, refl, sym, _∙_}
+use mathlib.Core.Bool.{Bool, true, false, _&&_, not, false≢true, true≢false}
+use mathlib.Core.List.{List}
+use native.Mathlib.Omega.{arith}
+use lib.ListN.{drop}
+use lib.Dec.{eqb}
+use borrow.Author.Tests.{eqb-true}
+use Rattle.command_map.specs.declared.Checked.{Checked}
+use Rattle.command_map.specs.declared.Checked.the-variants.{Command, NotItem, NotCommand, DoubleKey}
+use Rattle.command.specs.Command.{checked, numberOf}
+use Rattle.frame.specs.Frame.{Frame, isType, isMore}
+use Rattle.rules.specs.Rules.{View, isCommand, checkOf, judged, rules, firstBroken}
+use Rattle.rules.specs.Stages.{headRules, lastRules}
+use Rattle.rules.proofs.RuleLaws.{in-range, first-rest, first-among}
+
+-- 24 to 26 and what follows: t tells whether the command is whole, k is the check's number
+abbrev three : Bool → ℕ → ℕ → ℕ
+three t k rest =
+    elim (t && eqb k 24) as (λ _. ℕ) [
+      | true ↦ 24
+      | false ↦ elim (t && eqb k 25) as (λ _. ℕ) [ true ↦ 25 | false ↦ elim (t && eqb k 26) as (λ _. ℕ) [ true ↦ 26 | false ↦ rest ] ]
+    ]
+
+three-no : (t : Bool) (k rest : ℕ) → t ≡ false → three t k rest ≡ rest
+three-no true k rest e = absurd (true≢false e)
+three-no false k rest e = refl
+
+three-yes : (t : Bool) (c : Checked) (rest : ℕ) → t ≡ true → rest ≡ 0 → three t (numberOf c) rest ≡ numberOf c
+three-yes false c rest e q = absurd (false≢true e)
+three-yes true (Command start stop count first) rest e q = q
+three-yes true NotItem rest e q = refl
+three-yes true NotCommand rest e q = refl
+three-yes true DoubleKey rest e q = refl
+
+-- the number of a command that is refused
+three-range : (c : Checked) (n : ℕ) → numberOf c ≡ n → (n ≡ 0 → ⊥) → (24 ≤ n) × (n ≤ 26)
+three-range (Command start stop count first) n e h = absurd (h (sym e))
+three-range NotItem n e h = omega arith
+three-range NotCommand n e h = omega arith
+three-range DoubleKey n e h = omega arith
+
+pub check-range : (bytes : List ℕ) (n : ℕ) → checkOf bytes ≡ n → (n ≡ 0 → ⊥) → (24 ≤ n) × (n ≤ 26)
+unfolding checkOf
+check-range bytes n e h = three-range (checked bytes) n e h
+
+-- a command frame has no other type
+pub no-other : (f : Frame) (n : ℕ) → eqb 1 n ≡ false → isCommand f ≡ true → isType n f ≡ false
+unfolding isCommand isType
+no-other f n e c = rw (eqb-true (f .type) 1 c) e
+
+module _ (f : Frame) (v : View) where
+  last-none : isCommand f ≡ true → firstBroken lastRules f v ≡ 0
+  unfolding rules firstBroken
+  last-none c = rw (no-other f 2 refl c, no-other f 9 refl c, firstBroken) (rw (no-other f 9 refl c))
+
+  -- rules 24 to 29 of a command frame that more frames follow, of one that makes its command whole, and of a frame that is no command
+  pub rest-more : isCommand f ≡ true → isMore f ≡ true → firstBroken (drop 12 rules) f v ≡ 0
+  unfolding rules firstBroken judged
+  rest-more c m = three-no (isCommand f && not (isMore f)) (checkOf (v .command)) (firstBroken lastRules f v) (rw (c, m)) ∙ last-none c
+
+  pub rest-whole : isCommand f ≡ true → isMore f ≡ false → firstBroken (drop 12 rules) f v ≡ checkOf (v .command)
+  unfolding rules firstBroken judged checkOf
+  rest-whole c m = three-yes (isCommand f && not (isMore f)) (checked (v .command)) (firstBroken lastRules f v) (rw (c, m)) (last-none c)
+
+  pub rest-other : isCommand f ≡ false → firstBroken (drop 12 rules) f v ≡ firstBroken lastRules f v
+  unfolding rules firstBroken judged
+  rest-other c = three-no (isCommand f && not (isMore f)) (checkOf (v .command)) (firstBroken lastRules f v) (rw c)
+
+  -- all the rules, by the first twelve
+  pub all-head : (n : ℕ) → firstBroken headRules f v ≡ n → (n ≡ 0 → ⊥) → (firstBroken rules f v ≡ n) × (n < 24)
+  unfolding rules
+  all-head zero e h = absurd (h refl)
+  all-head (suc n) e h =
+      let (a, b) = in-range f v headRules 12 23 n refl e in
+      (first-among f v headRules (drop 12 rules) (λ q. h (sym e ∙ q)) ∙ e, omega arith)
+
+  pub all-rest : firstBroken headRules f v ≡ 0 → firstBroken rules f v ≡ firstBroken (drop 12 rules) f v
+  unfolding rules
+  all-rest e = first-rest f v headRules (drop 12 rules) 12 23 (omega arith) refl e
