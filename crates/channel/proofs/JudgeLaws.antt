@@ -31,6 +31,16 @@ use Rattle.channel.specs.Channel.{fedWith}
 use Rattle.channel.specs.Steps.{putFrom, stepped, metOf, refusedWith, acceptedWith}
 use Rattle.channel.proofs.ReceiverLaws.{room-of}
 
+-- the work area that a refusal leaves
+module _ (s : Channel) (f : Frame) (w : List ℕ) where
+  pub is-left : (n : ℕ) → (24 ≤ n → n ≤ 26 → ⊥) → refusedWork n s f w ≡ w
+  unfolding refusedWork
+  is-left n o = rw (fails (leb 24 n && leb n 26) (λ t. o (leb-true 24 n (and-l (leb 24 n) (leb n 26) t)) (leb-true n 26 (and-r (leb 24 n) (leb n 26) t))))
+
+  pub is-placed : (n : ℕ) → 24 ≤ n → n ≤ 26 → refusedWork n s f w ≡ placed s f w
+  unfolding refusedWork
+  is-placed n a b = rw (and-i (leb 24 n) (leb n 26) (le-leb 24 n a) (le-leb n 26 b))
+
 module _ (s : Channel) (w out : List ℕ) (done : ℕ) (wide : workArea ≤ length w) (short : lengthOf w ≤ maxPayload) (count : length (s .slots) ≡ slotCount) (live : s .dead ≡ 0) where
   abbrev h : Header
   h = headerOf w
@@ -86,19 +96,10 @@ module _ (s : Channel) (w out : List ℕ) (done : ℕ) (wide : workArea ≤ leng
   judged-suc zero work e o q = absurd (o refl)
   judged-suc (suc n) work e o q = rw (e, judge) (rw (q, write-none out done))
 
-  -- the work area that a refusal leaves
-  is-left : (n : ℕ) → (24 ≤ n → n ≤ 26 → ⊥) → refusedWork n s f w ≡ w
-  unfolding refusedWork
-  is-left n o = rw (fails (leb 24 n && leb n 26) (λ t. o (leb-true 24 n (and-l (leb 24 n) (leb n 26) t)) (leb-true n 26 (and-r (leb 24 n) (leb n 26) t))))
-
-  is-placed : (n : ℕ) → 24 ≤ n → n ≤ 26 → refusedWork n s f w ≡ placedIn
-  unfolding refusedWork placed target frameOf isNew headerOf
-  is-placed n a b = rw (and-i (leb 24 n) (leb n 26) (le-leb 24 n a) (le-leb n 26 b))
-
   pub answers-head : (n : ℕ) → head-number ≡ n → (n ≡ 0 → ⊥) → goal ≡ fedWith (refusedWith s n) w out
   answers-head n e o =
       let (a, b) = all-head f v n (sym head-same ∙ e) o in
-      judged-suc n w a o (is-left n (omega (arith, b)))
+      judged-suc n w a o (is-left s f w n (omega (arith, b)))
 
   -- ---- a frame that rules 12 to 23 let pass
 
@@ -157,9 +158,10 @@ module _ (s : Channel) (w out : List ℕ) (done : ℕ) (wide : workArea ≤ leng
         all-check = rest ∙ rest-whole f v is-command q
 
         pub answers-refused : (n : ℕ) → checkOf (command s f w) ≡ n → (n ≡ 0 → ⊥) → goal ≡ fedWith (refusedWith s n) placedIn out
+        unfolding placed target frameOf isNew headerOf
         answers-refused n c o =
             let (a, b) = check-range (command s f w) n c o in
-            judged-suc n placedIn (all-check ∙ c) o (is-placed n a b)
+            judged-suc n placedIn (all-check ∙ c) o (is-placed s f w n a b)
 
         pub answers-command : checkOf (command s f w) ≡ 0 → let new = requestRecord 1 (h .request) (dataFollows (framed h [])) (command s f w) in
             goal ≡ fedWith (acceptedWith s h (m .target) (collected (framed h []) size) (length new)) placedIn (write out done new)
@@ -182,7 +184,7 @@ module _ (s : Channel) (w out : List ℕ) (done : ℕ) (wide : workArea ≤ leng
 
       pub answers-last : (n : ℕ) → number ≡ n → (n ≡ 0 → ⊥) → goal ≡ fedWith (refusedWith s n) w out
       unfolding rules
-      answers-last n q p = judged-suc n w (all-last ∙ q) p (is-left n (above n q p))
+      answers-last n q p = judged-suc n w (all-last ∙ q) p (is-left s f w n (above n q p))
         where
           above : (n : ℕ) → number ≡ n → (n ≡ 0 → ⊥) → 24 ≤ n → n ≤ 26 → ⊥
           above zero q p a b = p refl

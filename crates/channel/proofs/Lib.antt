@@ -5,6 +5,7 @@ pub mod JudgeLaws
 pub mod PlaceLaws
 pub mod SeenLaws
 pub mod Demand3
+pub mod Refusal
 mod Finish
 pub mod FrameLaws
 pub mod QuietLaws

@@ -1,12 +1,24 @@
-// The receiving side of one channel: its state, by value.
+// The receiving side of one channel: its state, by value; the owner's finish; and what a whole frame does. What feed does is in feed.rt.
 mod feed;
-mod judge;
 
+use frame::Header;
+use requests::Phase;
 use requests::Slot;
 use requests::Want;
+use rules::Met;
 ghost use mathlib.Core.Path.{_≡_};
-ghost use Rattle.channel.specs.Receiver.{freshState};
-ghost use Rattle.channel.specs.Channel.{deadFits, plainShape, finishOf, finished};
+ghost use mathlib.Core.List.{[]};
+ghost use Prim.Native.Nat.{_+_, _≤_, _<_};
+ghost use lib.ListN.{length, take, drop};
+ghost use Rattle.buffer.specs.Bytes.{write};
+ghost use Rattle.frame.specs.Limits.{partStart};
+ghost use Rattle.frame.specs.Header.{lengthOf, headerOf};
+ghost use Rattle.frame.specs.Frame.{framed, frameOf};
+ghost use Rattle.rules.specs.Rules.{firstBroken};
+ghost use Rattle.rules.specs.Stages.{viewed, headRules};
+ghost use Rattle.channel.specs.Receiver.{freshState, collected, dataSlot, judge};
+ghost use Rattle.channel.specs.Channel.{deadFits, plainShape, finishOf, finished, fedWith};
+ghost use Rattle.channel.specs.Steps.{putFrom, stepped, metOf, refusedWith, acceptedWith};
 
 // The dead number, 0 while live; how many bytes of the frame under way are in the work area; the slots; and the streams, true for open:
 // stream 2k + 1 at index k.
@@ -61,7 +73,7 @@ impl Channel {
     }
 
     // Whether the plain numbers of rule 3 are in order.
-    pub(crate) fn is_plain(self) -> bool
+    fn is_plain(self) -> bool
         ensures { λ r. ⌜ r ≡ plainShape self ⌝ }
     {
         if 4103 < self.pending {
@@ -108,5 +120,191 @@ impl Channel {
             number: 4,
             channel: self,
         }
+    }
+}
+
+// ---- a whole frame in the work area: the rules, and what it does if it is accepted or refused
+
+// Puts the frame's payload of n bytes into a slot's part of the work area, behind the bytes that the part holds.
+fn place(work: &mut [u8], slot: usize, held: usize, n: usize)
+    requires { ⌜ (20488 ≤ length (now work)) × (slot < 8) × (held + n ≤ 2048) ⌝ }
+    ensures { λ _. ⌜ now (work .exit) ≡ write (now (work .entry)) (partStart slot + held) (take n (drop 8 (now (work .entry)))) ⌝ }
+{
+    let mut payload = [0u8; 2048];
+    let end = 8 + n;
+    buffer::put(&mut payload, 0, &work[8..end]);
+    let start = 4104 + 2048 * slot;
+    let stop = start + 2048;
+    buffer::put(&mut work[start..stop], held, &payload[..n]);
+}
+
+// The slot of a request after a command frame, with the command's length.
+fn command_slot(h: Header, size: usize) -> Slot
+    ensures { λ r. ⌜ r ≡ collected (framed h []) size ⌝ }
+{
+    let databit = h.data_follows();
+    if h.is_more() {
+        return Slot {
+            id: h.request,
+            phase: Phase::Collecting,
+            databit,
+            length: size,
+        };
+    }
+    if databit {
+        return Slot {
+            id: h.request,
+            phase: Phase::Waiting,
+            databit,
+            length: 0,
+        };
+    }
+    Slot {
+        id: h.request,
+        phase: Phase::Running,
+        databit,
+        length: 0,
+    }
+}
+
+// A request's slot after a data frame.
+fn data_slot(x: Slot, h: Header) -> Slot
+    ensures { λ r. ⌜ r ≡ dataSlot x (framed h []) ⌝ }
+{
+    if h.is_last() {
+        return Slot {
+            id: x.id,
+            phase: Phase::Running,
+            databit: x.databit,
+            length: x.length,
+        };
+    }
+    x
+}
+
+impl Channel {
+    // What the frame of a header meets.
+    fn met(self, h: Header) -> Met
+        ensures { λ r. ⌜ r ≡ metOf self h ⌝ }
+    {
+        let slots = self.slots;
+        let stream = (h.stream / 2) as usize;
+        let place = requests::find(slots, Want::Used(h.request));
+        let lowest = requests::find(slots, Want::Unused);
+        let mut target = place;
+        if h.is_new() {
+            target = lowest;
+        }
+        let x = requests::slot_at(slots, place);
+        let y = requests::slot_at(slots, target);
+        let phase = x.phase;
+        Met {
+            is_open: self.streams[stream],
+            place,
+            phase,
+            databit: x.databit,
+            full: 8 <= lowest,
+            target,
+            held: y.length,
+        }
+    }
+
+    // The answer to a byte that refuses its frame.
+    fn refused(self, n: u8) -> Fed
+        ensures { λ r. ⌜ r ≡ refusedWith self n ⌝ }
+    {
+        let mut next = self;
+        next.dead = n;
+        next.pending = 0;
+        Fed {
+            number: n,
+            taken: 1,
+            written: 0,
+            channel: next,
+        }
+    }
+
+    // The answer to a byte whose frame is accepted, with the slot that it leaves at an index and the length of its record.
+    fn accepted(self, h: Header, i: usize, x: Slot, written: usize) -> Fed
+        ensures { λ r. ⌜ r ≡ acceptedWith self h i x written ⌝ }
+    {
+        let slots = self.slots;
+        let stream = (h.stream / 2) as usize;
+        let mut next = self;
+        next.pending = 0;
+        next.slots = requests::with_slot(slots, i, x);
+        next.streams[stream] = !h.ends();
+        Fed {
+            number: 0,
+            taken: 1,
+            written,
+            channel: next,
+        }
+    }
+
+    // A command frame that rules 12 to 23 let pass.
+    fn command(self, h: Header, m: Met, work: &mut [u8], out: &mut [u8], done: usize) -> Fed
+        requires { ⌜ (20488 ≤ length (now work)) × (lengthOf (now work) ≤ 4096) × (self .dead ≡ 0) × (h ≡ headerOf (now work)) × (m ≡ metOf self h) × (h .kind ≡ 1) × (firstBroken headRules (framed h []) (viewed m h []) ≡ 0) ⌝ }
+        ensures { λ r. ⌜ fedWith r (now (work .exit)) (now (out .exit)) ≡ putFrom (now (out .entry)) done (stepped (judge self (frameOf (now (work .entry))) (now (work .entry)))) ⌝ }
+    {
+        let target = m.target;
+        let size = m.held + h.length;
+        place(work, target, m.held, h.length);
+        let x = command_slot(h, size);
+        if h.is_more() {
+            return self.accepted(h, target, x, 0);
+        }
+        let start = 4104 + 2048 * target;
+        let stop = start + size;
+        let n = rules::command_number(&work[start..stop]);
+        if n != 0 {
+            return self.refused(n);
+        }
+        let written = frame::put_record(
+            out,
+            done,
+            1,
+            h.request,
+            h.data_follows(),
+            &work[start..stop],
+        );
+        self.accepted(h, target, x, written)
+    }
+
+    // Data or settings that rules 12 to 23 let pass.
+    fn other(self, h: Header, m: Met, work: &[u8], out: &mut [u8], done: usize) -> Fed
+        requires { ⌜ (20488 ≤ length (now work)) × (lengthOf (now work) ≤ 4096) × (self .dead ≡ 0) × (h ≡ headerOf (now work)) × (m ≡ metOf self h) × (h .kind ≡ 1 → ⊥) × (firstBroken headRules (framed h []) (viewed m h []) ≡ 0) ⌝ }
+        ensures { λ r. ⌜ fedWith r (now (work .entry)) (now (out .exit)) ≡ putFrom (now (out .entry)) done (stepped (judge self (frameOf (now (work .entry))) (now (work .entry)))) ⌝ }
+    {
+        let end = 8 + h.length;
+        let n = rules::last_number(h, m, &work[8..end]);
+        if n != 0 {
+            return self.refused(n);
+        }
+        if h.kind == 2 {
+            let slots = self.slots;
+            let x = requests::slot_at(slots, m.place);
+            let y = data_slot(x, h);
+            let written = frame::put_record(out, done, 2, h.request, h.is_last(), &work[8..end]);
+            return self.accepted(h, m.place, y, written);
+        }
+        self.accepted(h, 8, Slot::free(), 0)
+    }
+
+    // The frame rules 12 to 29 on the whole frame in the work area.
+    fn judge(self, work: &mut [u8], out: &mut [u8], done: usize) -> Fed
+        requires { ⌜ (20488 ≤ length (now work)) × (lengthOf (now work) ≤ 4096) × (self .dead ≡ 0) ⌝ }
+        ensures { λ r. ⌜ fedWith r (now (work .exit)) (now (out .exit)) ≡ putFrom (now (out .entry)) done (stepped (judge self (frameOf (now (work .entry))) (now (work .entry)))) ⌝ }
+    {
+        let h = frame::read_header(&work[..]);
+        let m = self.met(h);
+        let n = rules::head_number(h, m);
+        if n != 0 {
+            return self.refused(n);
+        }
+        if h.kind == 1 {
+            return self.command(h, m, work, out, done);
+        }
+        self.other(h, m, &work[..], out, done)
     }
 }

@@ -1,10 +1,10 @@
--- `judge::data_slot` meets its contract, by the test.
+-- `channel::data_slot` meets its contract, by the test.
 -- Assumes nothing.
 use mathlib.Core.Path.{sym, _∙_}
 use borrow.Author.Needs.{needs}
 use Rattle.channel.specs.Receiver.{dataSlot, enter}
-use Rattle.channel.proofs.judge.data_slot.Statement.{statement}
-use Rattle.channel.proofs.judge.data_slot.Tie as tie
+use Rattle.channel.proofs.data_slot.Statement.{statement}
+use Rattle.channel.proofs.data_slot.Tie as tie
 
 returns : tie.Need-returns
 unfolding dataSlot enter

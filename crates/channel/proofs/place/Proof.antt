@@ -1,4 +1,4 @@
--- `judge::place` meets its contract: the payload is copied out of the work area, and then behind what the slot's part holds.
+-- `channel::place` meets its contract: the payload is copied out of the work area, and then behind what the slot's part holds.
 -- Assumes nothing.
 use Prim.Native.Nat.{ℕ, _+_, _-_, _≤_, _<_}
 use mathlib.Core.Path.{_≡_, sym}
@@ -11,8 +11,8 @@ use borrow.Rule.Slice.PartMut.{midOf, putMid}
 use Rattle.buffer.specs.Bytes.{write}
 use Rattle.buffer.proofs.WriteLaws.{write-mid, take-front}
 use Rattle.frame.specs.Limits.{partStart}
-use Rattle.channel.proofs.judge.place.Statement.{statement}
-use Rattle.channel.proofs.judge.place.Tie as tie
+use Rattle.channel.proofs.place.Statement.{statement}
+use Rattle.channel.proofs.place.Tie as tie
 
 slice-aggregate-put-2 : tie.Need-slice-aggregate-put-2
 slice-aggregate-put-2 c =
