@@ -19,9 +19,8 @@ use Rattle.channel.specs.declared.Channel.{Channel}
 use Rattle.channel.specs.Receiver.{Receiver, slotAt, placeOf, lowestFree, target, commandLength, command, placed, streamOpen, viewOf, refused, refusedWork, commandSlot, slotsAfter, streamsAfter, accepted, judge, put, isWhole, tooLong, counted, takeByte}
 use Rattle.channel.specs.Channel.{channel, heldShape}
 use Rattle.channel.specs.Steps.{receiver, stepped, quietCount}
-use Rattle.channel.proofs.ReceiverLaws.{length-later, held-e}
+use Rattle.channel.proofs.ReceiverLaws.{length-later, held-e, take-live}
 use Rattle.channel.proofs.FrameLaws.{judged-at, counted-whole, counted-open}
-use Rattle.channel.proofs.SeenLaws.{take-live}
 
 module _ (s : Channel) (w : List ℕ) (b : ℕ) where
   abbrev n : ℕ

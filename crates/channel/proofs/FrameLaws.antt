@@ -16,8 +16,7 @@ use Rattle.frame.specs.Header.{lengthOf}
 use Rattle.channel.specs.Receiver.{Receiver, put, isWhole, tooLong, counted, judge}
 use Rattle.channel.specs.Channel.{channel}
 use Rattle.rules.proofs.Bools.{fails, clash, and-l, and-r}
-use Rattle.channel.proofs.ReceiverLaws.{length-later}
-use Rattle.channel.proofs.SeenLaws.{take-live}
+use Rattle.channel.proofs.ReceiverLaws.{length-later, take-live}
 
 -- all of these bytes put
 unfoldable pub filled : Receiver → List ℕ → Receiver

@@ -15,8 +15,7 @@ use Rattle.session.proofs.Pieces.{read-on, read-stops, read-all, read-within, r
 use Rattle.channel.specs.Receiver.{Receiver}
 use Rattle.channel.specs.Channel.{channel}
 use Rattle.channel.specs.Steps.{putFrom}
-use Rattle.channel.proofs.ReceiverLaws.{Ok, take-ok, quiet}
-use Rattle.channel.proofs.Demand3.{keeps}
+use Rattle.channel.proofs.ReceiverLaws.{Ok, take-ok, quiet, keeps}
 
 -- a feed's output: its records stand at the front
 pub feeds-all : (r : Receiver) (input out : List ℕ) → Ok r → putFrom out 0 (read channel r (length out) input) ≡ wrote channel out (read channel r (length out) input)

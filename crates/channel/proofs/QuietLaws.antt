@@ -19,8 +19,7 @@ use Rattle.session.proofs.Pieces.{read-quiet}
 use Rattle.channel.specs.Receiver.{Receiver, put, isWhole, tooLong, takeByte}
 use Rattle.channel.specs.Steps.{quietCount}
 use Rattle.channel.specs.Channel.{channel, heldShape}
-use Rattle.channel.proofs.ReceiverLaws.{length-later, held-e, held-i}
-use Rattle.channel.proofs.SeenLaws.{take-live}
+use Rattle.channel.proofs.ReceiverLaws.{length-later, held-e, held-i, take-live}
 use Rattle.channel.proofs.FrameLaws.{not-long, counted-open}
 
 -- these many bytes can be put: they end before the frame's eighth byte, or before its last

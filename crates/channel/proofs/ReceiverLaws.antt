@@ -16,10 +16,12 @@ use Rattle.frame.specs.Limits.{maxPayload, maxCommand, slotCount, longestRecord
 use Rattle.frame.specs.Frame.{Frame, frameOf, isEven, isType, isNew, isMore, dataFollows, isLast}
 use Rattle.frame.specs.Header.{lengthOf}
 use Rattle.frame.specs.Records.{recordOf, two, bit}
+use Rattle.session.specs.Session.{Step}
+use Rattle.session.proofs.Laws.{not-zero, Keeps}
 use Rattle.channel.specs.Receiver.{Receiver, slotAt, placeOf, slotOf, lowestFree, target, commandLength, placed, command, refused, refusedWork, commandSlot, enter, dataSlot, slotsAfter, accepted, judge, put, isWhole, tooLong, counted, takeByte, freed, finishState, finish, viewOf}
 use Rattle.requests.specs.Slots.{inPhase, isId, slotFits, idIn, slotsFit}
 use Rattle.requests.specs.Phases.{freeSlot, isPhase, code}
-use Rattle.channel.specs.Channel.{deadFits, plainShape, heldShape, shape}
+use Rattle.channel.specs.Channel.{deadFits, plainShape, heldShape, shape, channel}
 use Rattle.rules.specs.Rules.{recordWith, firstBroken, isCommand, rules}
 use Rattle.rules.proofs.Bools.{and-l, and-r, and-i, and-no, or-r, no-not, no-is, clash, by-cond}
 use Rattle.channel.proofs.SlotLaws.{found, inside, each-fits, set-fits, same-id, of-id}
@@ -372,6 +374,15 @@ module _ (r : Receiver) (b : ℕ) (k : Ok r) where
       go zero e = rw (e, takeByte) (counted-ok e)
       go (suc n) e = rw (e, takeByte) (k, omega arith)
 
+-- a live receiver counts the byte
+pub take-live : (r : Receiver) (b : ℕ) → r .state .dead ≡ 0 → takeByte r b ≡ counted (put r b)
+unfolding takeByte
+take-live r b d = go (r .state .dead) d
+  where
+    go : (n : ℕ) → n ≡ 0 → elim n as (λ _. Step Receiver) [ zero ↦ counted (put r b) | suc n ↦ record { next = r; adds = [] } ] ≡ counted (put r b)
+    go zero e = refl
+    go (suc n) e = absurd (not-zero n e)
+
 -- a byte that does not close its frame adds no record
 pub quiet : (r : Receiver) (b : ℕ) → isWhole (put r b) ≡ false → takeByte r b .adds ≡ []
 unfolding takeByte counted refused
@@ -403,3 +414,14 @@ finish-ok r id k = go (r .state .dead) (inPhase Running (slotOf (r .state) id)) 
     go zero true d t = rw (d, t, finishState) (freed-ok r id k)
     go zero false d t = rw (d, t, finishState) k
     go (suc n) t d l = rw (d, finishState) k
+
+-- what the laws over every receiver ask: an invariant that bytes and finishes keep
+abbrev pub keeps : Keeps channel
+keeps = record {
+  Ok = Ok;
+  roomy = λ r k. le-leb workArea (length (r .work)) (k .work);
+  shaped = ok-shape;
+  plain = ok-plain;
+  byte = λ r b k. take-ok r b k .0;
+  call = finish-ok;
+}

@@ -46,8 +46,8 @@ impl Channel {
         ensures { λ r. ⌜ fedWith r (now (work .exit)) (now (out .exit)) ≡ putFrom (now (out .entry)) done (read channel (receiver self (now (work .entry))) (length (now (out .entry)) - done) (b ∷ [])) ⌝ }
     {
         let at = self.pending;
-        let n = frame::payload_length(&work[..]);
-        if at - 7 == n {
+        let size = frame::payload_length(&work[..]);
+        if at - 7 == size {
             if out.len() - done < 4103 {
                 return self.still(5);
             }
@@ -55,7 +55,7 @@ impl Channel {
             return self.judge(work, out, done);
         }
         work[at] = b;
-        if 4096 < n {
+        if 4096 < size {
             return self.refused(11);
         }
         let mut next = self;

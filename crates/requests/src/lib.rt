@@ -157,12 +157,12 @@ pub fn slot_at(slots: [Slot; 8], i: usize) -> Slot
 }
 
 // The slots with another one at an index; as they are where there is none.
-pub fn with_slot(slots: [Slot; 8], i: usize, s: Slot) -> [Slot; 8]
-    ensures { λ r. ⌜ r ≡ set slots i s ⌝ }
+pub fn with_slot(slots: [Slot; 8], at: usize, s: Slot) -> [Slot; 8]
+    ensures { λ r. ⌜ r ≡ set slots at s ⌝ }
 {
     let mut next = slots;
-    if i < 8 {
-        next[i] = s;
+    if at < 8 {
+        next[at] = s;
     }
     next
 }

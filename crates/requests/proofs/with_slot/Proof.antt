@@ -13,8 +13,8 @@ returns-2 : tie.Need-returns-2
 returns-2 c =
     let a = c .before .args in
     let eight : length (a .slots) ≡ 8 = search needs in
-    let h : length (a .slots) ≤ a .i = omega arith in
-    sym (set-out (a .slots) (a .i) (a .s) h)
+    let h : length (a .slots) ≤ a .at = omega arith in
+    sym (set-out (a .slots) (a .at) (a .s) h)
 
 pub with-slot-spec : {M : Type 1} → statement M
 with-slot-spec = tie.close (tie.spec (λ c. search needs) (λ c. search needs) (λ c. search needs) returns-2)

@@ -11,13 +11,13 @@ use Rattle.frame.specs.Frame.{Frame, frameOf, isNew}
 use Rattle.session.specs.Session.{Step}
 use Rattle.requests.specs.Slots.{slotsFit}
 use Rattle.rules.specs.Rules.{rules, firstBroken}
 use Rattle.channel.specs.declared.Channel.{Channel}
 use Rattle.channel.specs.Receiver.{Receiver, slotAt, placeOf, slotOf, lowestFree, target, placed, viewOf, refused, refusedWork, accepted, judge, put, isWhole, tooLong, counted, takeByte}
-use Rattle.channel.specs.Demands.{Refused, AfterRefusal}
+use Rattle.demands.specs.Demands.{Refused, AfterRefusal}
 use Rattle.channel.proofs.SlotLaws.{each-fits}
-use Rattle.channel.proofs.ReceiverLaws.{ok-start}
+use Rattle.channel.proofs.ReceiverLaws.{ok-start, take-live}
 use Rattle.channel.proofs.JudgeLaws.{is-left, is-placed}
-use Rattle.channel.proofs.SeenLaws.{free-empty, lowest-is-free, take-live}
+use Rattle.demands.proofs.SeenLaws.{free-empty, lowest-is-free}
 
 module _ (s : Channel) (f : Frame) (w : List ℕ) where
   -- a free slot holds nothing

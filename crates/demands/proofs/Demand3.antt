@@ -5,26 +5,15 @@ use mathlib.Core.Path.{_≡_, refl}
 use mathlib.Core.Bool.{Bool, true, false, cond}
 use lib.ListN.{length}
 use borrow.Author.Tests.{le-leb}
 use Rattle.channel.specs.declared.Channel.{Channel}
 use Rattle.frame.specs.Limits.{workArea}
 use Rattle.session.specs.Session.{Reply, session, own}
 use Rattle.channel.specs.Receiver.{Receiver, finishState, finish}
-use Rattle.channel.specs.Demands.{Sound, Demand3, StaysSound, Progress, KeepsLength, CountsHold}
+use Rattle.demands.specs.Demands.{Sound, Demand3, StaysSound, Progress, KeepsLength, CountsHold}
 use Rattle.channel.specs.Channel.{plainShape, channel, finishOf}
-use Rattle.session.proofs.Laws.{Keeps}
 use Rattle.session.proofs.Counts.{feed-counted}
 use Rattle.session.proofs.Laws as Laws
-use Rattle.channel.proofs.ReceiverLaws.{Ok, ok-start, ok-plain, ok-shape, take-ok, finish-ok, quiet}
-
-abbrev pub keeps : Keeps channel
-keeps = record {
-  Ok = Ok;
-  roomy = λ r k. le-leb workArea (length (r .work)) (k .work);
-  shaped = ok-shape;
-  plain = ok-plain;
-  byte = λ r b k. take-ok r b k .0;
-  call = finish-ok;
-}
+use Rattle.channel.proofs.ReceiverLaws.{Ok, ok-start, ok-shape, take-ok, quiet, keeps}
 
 ok : (r : Receiver) → Sound r → Ok r
 ok r s = ok-start r (s .roomy) (s .slots) (s .shaped)

@@ -12,23 +12,23 @@ use borrow.Author.Tests.{eqb-true, eq-eqb, leb-true, ltb-true, ltb-false}
 use Rattle.requests.specs.declared.Phase.{Phase}
 use Rattle.requests.specs.declared.Phase.the-variants.{Free, Collecting, Waiting, Running}
 use Rattle.requests.specs.declared.Slot.{Slot}
 use Rattle.channel.specs.declared.Channel.{Channel}
 use Rattle.frame.specs.Limits.{maxCommand, slotCount, frameArea, workArea, partStart}
 use Rattle.session.specs.Session.{Step, Reply}
 use Rattle.frame.specs.Frame.{Frame, isEven, isType, isNew, isMore, dataFollows, isLast}
-use Rattle.channel.specs.Demands.{freshOn}
+use Rattle.demands.specs.Demands.{freshOn}
 use Rattle.channel.specs.Receiver.{Receiver, freshState, slotAt, placeOf, slotOf, lowestFree, target, commandLength, placed, command, commandSlot, enter, dataSlot, slotsAfter, streamsAfter, accepted, put, counted, takeByte, freed, finishState, finish, viewOf}
 use Rattle.requests.specs.Slots.{inPhase, isId, firstSlot, slotFits, apart, slotsFit}
 use Rattle.requests.specs.Phases.{freeSlot, isPhase, code}
 use Rattle.channel.specs.Channel.{deadFits, heldShape}
-use Rattle.channel.specs.Request.{ending, itemOf, Request, idle, moved}
+use Rattle.demands.specs.Request.{ending, itemOf, Request, idle, moved}
 use Rattle.rules.specs.Rules.{firstBroken, isCommand, rules}
 use Rattle.rules.proofs.Bools.{and-r, and-i, and-no, no-not, no-is, fails, clash, by-cond}
 use Rattle.channel.proofs.SlotLaws.{inside, each-fits, same-id, of-id, not-free-id, freed-slot}
 use Rattle.rules.proofs.RuleLaws.{passed}
 use Rattle.buffer.proofs.WriteLaws.{own-part, other-part}
-use Rattle.channel.proofs.PlaceLaws.{hit, missed, placed-at}
+use Rattle.demands.proofs.PlaceLaws.{hit, missed, placed-at}
 use Rattle.channel.proofs.ReceiverLaws.{Ok, Room, room, waits, used}
 
 -- the receiver seen from a request
 unfoldable pub seen : ℕ → Receiver → Request
@@ -346,14 +346,6 @@ never n q = absurd (z q)
   where
     z : suc n ≡ 0 → ⊥
     z k = omega arith
-
-pub take-live : (r : Receiver) (b : ℕ) → r .state .dead ≡ 0 → takeByte r b ≡ counted (put r b)
-unfolding takeByte
-take-live r b d = go (r .state .dead) d
-  where
-    go : (n : ℕ) → n ≡ 0 → elim n as (λ _. Step Receiver) [ zero ↦ counted (put r b) | suc n ↦ record { next = r; adds = [] } ] ≡ counted (put r b)
-    go zero e = refl
-    go (suc n) e = never n e
 
 -- ---- finish
 

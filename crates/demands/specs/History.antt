@@ -12,7 +12,7 @@ use Rattle.session.specs.Session.{Step, Reply, Event, took, asked, Outcome, fed
 use Rattle.frame.specs.Frame.{Frame, frameOf, ends, isType}
 use Rattle.frame.specs.Header.{lengthOf}
 use Rattle.frame.specs.Records.{bit}
-use Rattle.channel.specs.Request.{Item, ending, itemOf, Request, idle, moved}
+use Rattle.demands.specs.Request.{Item, ending, itemOf, Request, idle, moved}
 use Rattle.requests.specs.Phases.{isPhase}
 use Rattle.rules.specs.Rules.{View, overlong, rules, firstBroken, recordWith}
 

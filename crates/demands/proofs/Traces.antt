@@ -24,17 +24,16 @@ use Rattle.frame.specs.Settings
 use Rattle.frame.specs.Records
 use Rattle.requests.specs.Phases
 use Rattle.requests.specs.Slots
-use Rattle.channel.specs.Request
+use Rattle.demands.specs.Request
 use Rattle.rules.specs.Rules
 use Rattle.channel.specs.Receiver
 use Rattle.channel.specs.Receiver.{Receiver}
 use Rattle.channel.specs.Channel
 use Rattle.channel.specs.Channel.{channel}
-use Rattle.channel.specs.Traces
-use Rattle.channel.specs.Traces.{Start, fresh, waiting, startOf, Line, bytes, ends, callOf, Result, answers, ran, Trace, calls, looks, resultOf, table}
+use Rattle.demands.specs.Traces
+use Rattle.demands.specs.Traces.{Start, fresh, waiting, startOf, Line, bytes, ends, callOf, Result, answers, ran, Trace, calls, looks, resultOf, table}
 use Rattle.session.proofs.Laws.{feed-open, read-keeps, own-is}
-use Rattle.channel.proofs.ReceiverLaws.{Ok, finish-ok}
-use Rattle.channel.proofs.Demand3.{keeps}
+use Rattle.channel.proofs.ReceiverLaws.{Ok, finish-ok, keeps}
 
 -- The same without the checks of rules 1, 2 and 3 and without the output, which cost the length of a work area and of an output at each
 -- call to compute: rule 2 and 3 never apply in a session, and of the output a reading needs its length.

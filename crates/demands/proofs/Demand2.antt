@@ -8,28 +8,27 @@ use native.Mathlib.Nat.{suc-inj}
 use lib.ListN.{length, take, getD, replicate}
 use lib.Dec.{ltb, eqb}
 use borrow.Author.Tests.{eqb-true, ltb-true}
 use Rattle.channel.specs.declared.Channel.{Channel}
 use Rattle.requests.specs.declared.Phase.the-variants.{Free, Running}
 use Rattle.frame.specs.Limits.{maxPayload, streamCount, workArea}
 use Rattle.session.specs.Session.{Step, Reply, Call, Event, took, asked, Outcome, fed, answered, uncut, events, feeds, owns, feed, own}
 use Rattle.frame.specs.Frame.{Frame, frameOf}
 use Rattle.frame.specs.Header.{lengthOf}
-use Rattle.channel.specs.Request.{idle}
+use Rattle.demands.specs.Request.{idle}
 use Rattle.requests.specs.Phases.{isPhase, code}
 use Rattle.channel.specs.Receiver
 use Rattle.channel.specs.Receiver.{Receiver, freshState, refused, accepted, judge, put, isWhole, tooLong, counted, takeByte, finishState, slotOf, freed, viewOf}
 use Rattle.requests.specs.Slots.{inPhase}
 use Rattle.channel.specs.Channel.{channel}
-use Rattle.channel.specs.Demands.{freshOn, Agree, Fed, nil, bytes, ends, Demand2, Demand2Session, NextFrame}
-use Rattle.channel.specs.History.{History, finish, streamOpen, itemsOf, stands, request, isIn, refusalOf, answerTo, isLong, isAll, Past, nothing, stopped, frameAfter, bytesAfter, byteAfter, finishAfter, told, Sent, none, byte, call, given}
+use Rattle.demands.specs.Demands.{freshOn, Agree, Fed, nil, bytes, ends, Demand2, Demand2Session, NextFrame}
+use Rattle.demands.specs.History.{History, finish, streamOpen, itemsOf, stands, request, isIn, refusalOf, answerTo, isLong, isAll, Past, nothing, stopped, frameAfter, bytesAfter, byteAfter, finishAfter, told, Sent, none, byte, call, given}
 use Rattle.rules.specs.Rules.{firstBroken, rules}
 use Rattle.rules.proofs.Bools.{clash, fails, and-l, and-r}
 use Rattle.session.proofs.Laws as Laws
-use Rattle.channel.proofs.ReceiverLaws.{Ok, take-ok, finish-ok}
-use Rattle.channel.proofs.SeenLaws.{never, take-live, Finished, ended, stays, finish-cases, fresh-ok, fresh-idle}
-use Rattle.channel.proofs.HistoryLaws.{Says, same-number, same-record, says-after, says-put, says-finish}
-use Rattle.channel.proofs.CutLaws.{Under, under-none, under-put, same-long, same-whole, same-frame, small-stream, small-request}
-use Rattle.channel.proofs.Demand3.{keeps}
+use Rattle.channel.proofs.ReceiverLaws.{Ok, take-ok, finish-ok, take-live, keeps}
+use Rattle.demands.proofs.SeenLaws.{never, Finished, ended, stays, finish-cases, fresh-ok, fresh-idle}
+use Rattle.demands.proofs.HistoryLaws.{Says, same-number, same-record, says-after, says-put, says-finish}
+use Rattle.demands.proofs.CutLaws.{Under, under-none, under-put, same-long, same-whole, same-frame, small-stream, small-request}
 
 -- A live receiver holds what the history and the first bytes of the frame under way say.
 pub record Holds (h : History) (bs : List ℕ) (r : Receiver) : Type 0 where

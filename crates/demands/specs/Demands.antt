@@ -11,9 +11,9 @@ use Rattle.frame.specs.Limits.{slotCount, longestRecord, workArea, partStart}
 use Rattle.frame.specs.Frame.{frameOf, isNew}
 use Rattle.session.specs.Session.{Call, feeds, owns, Event, Outcome, uncut, session, events, feed}
 use Rattle.session.specs.Counts.{Counted, recordsOf}
 use Rattle.channel.specs.Receiver.{Receiver, freshState, slotOf, placeOf, lowestFree, put, takeByte}
 use Rattle.channel.specs.Channel.{shape, channel}
-use Rattle.channel.specs.History.{Past, nothing, told, Sent, isAll, refusalOf, given}
+use Rattle.demands.specs.History.{Past, nothing, told, Sent, isAll, refusalOf, given}
 
 -- ---- demand 3
 

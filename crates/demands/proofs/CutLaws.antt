@@ -11,8 +11,8 @@ use borrow.Author.Tests.{eqb-true, ne-eqb, leb-true, leb-false}
 use Rattle.frame.specs.Limits.{maxPayload}
 use Rattle.frame.specs.Frame.{frameOf}
 use Rattle.frame.specs.Header.{lengthOf, headerOf}
 use Rattle.channel.specs.Receiver.{Receiver, put, isWhole, tooLong}
-use Rattle.channel.specs.History.{isLong, isAll, idCount}
+use Rattle.demands.specs.History.{isLong, isAll, idCount}
 use Rattle.buffer.proofs.WriteLaws.{take-of-drop}
 
 cut-length : (n : ℕ) (w : List ℕ) → 3 ≤ n → lengthOf (take n w) ≡ lengthOf w

@@ -12,9 +12,9 @@ use Rattle.requests.specs.declared.Slot.{Slot}
 use Rattle.frame.specs.Records.{bit}
 use Rattle.requests.specs.Slots.{inPhase, isId, firstSlot, idIn, slotsFit}
 use Rattle.requests.specs.Phases.{freeSlot, isPhase, code}
-use Rattle.channel.specs.History.{howMany}
+use Rattle.demands.specs.History.{howMany}
 use Rattle.rules.proofs.Bools.{fails, clash}
 use Rattle.channel.proofs.SlotLaws.{found, none-there, tail-fits, head-apart, apart-e, same-id, of-id, in-tail, in-head}
 
 -- ---- how many numbers pass a test
 

@@ -11,25 +11,25 @@ use borrow.Author.Tests.{eqb-true, eqb-false, eq-eqb}
 use Rattle.requests.specs.declared.Phase.{Phase}
 use Rattle.requests.specs.declared.Phase.the-variants.{Free, Collecting, Waiting, Running}
 use Rattle.requests.specs.declared.Slot.{Slot}
 use Rattle.channel.specs.declared.Channel.{Channel}
 use Rattle.frame.specs.Limits.{maxCommand, slotCount, streamCount, frameArea, workArea, partStart}
 use Rattle.session.specs.Session.{Reply}
 use Rattle.rules.specs.Rules.{checkOf, recordWith, View, isCommand, judged, Rule, rule, rules, firstBroken}
 use Rattle.frame.specs.Frame.{Frame, isEven, begins, ends, isType, isNew, isMore, dataFollows, isLast}
 use Rattle.frame.specs.Records.{recordOf, two, bit}
 use Rattle.channel.specs.Receiver
 use Rattle.channel.specs.Receiver.{Receiver, slotAt, placeOf, slotOf, lowestFree, target, commandLength, streamsAfter, accepted, put, freed, viewOf}
 use Rattle.requests.specs.Slots.{inPhase, slotFits, idIn, slotsFit}
 use Rattle.requests.specs.Phases.{freeSlot, isPhase, code}
-use Rattle.channel.specs.History
-use Rattle.channel.specs.History.{History, frame, finish, streamOpen, isOf, itemsOf, stands, request, isIn, howMany, idCount, activeIds, own, refusalOf, recordFor, answerTo, viewIn}
-use Rattle.channel.specs.Request.{ending, idle, itemOf, moved, Request}
+use Rattle.demands.specs.History
+use Rattle.demands.specs.History.{History, frame, finish, streamOpen, isOf, itemsOf, stands, request, isIn, howMany, idCount, activeIds, own, refusalOf, recordFor, answerTo, viewIn}
+use Rattle.demands.specs.Request.{ending, idle, itemOf, moved, Request}
 use Rattle.rules.proofs.Bools.{and-l, and-r, and-i, and-no, no-not, not-no, clash, by-cond}
 use Rattle.channel.proofs.SlotLaws.{inside, each-fits}
 use Rattle.rules.proofs.RuleLaws.{passed}
-use Rattle.channel.proofs.CountLaws.{many-ext, none-free, used-many, in-found}
+use Rattle.demands.proofs.CountLaws.{many-ext, none-free, used-many, in-found}
 use Rattle.channel.proofs.ReceiverLaws.{Ok, accepted-ok, finish-ok}
-use Rattle.channel.proofs.SeenLaws.{seen, Fresh, fresh-id, held-bytes, short-slot, free-empty, other-frame, own-frame, put-seen, Finished, ended, stays, finish-cases, finish-other, finish-own}
+use Rattle.demands.proofs.SeenLaws.{seen, Fresh, fresh-id, held-bytes, short-slot, free-empty, other-frame, own-frame, put-seen, Finished, ended, stays, finish-cases, finish-other, finish-own}
 
 -- the tables say what the history says; the frame under way plays no part
 pub record Says (h : History) (r : Receiver) : Type 0 where

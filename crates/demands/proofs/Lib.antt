@@ -1,0 +1,10 @@
+-- The demands, and the laws that they rest on, from the bottom up.
+pub mod Demand3
+pub mod PlaceLaws
+pub mod SeenLaws
+pub mod Refusal
+pub mod CountLaws
+pub mod HistoryLaws
+pub mod CutLaws
+pub mod Demand2
+pub mod Traces

@@ -1,0 +1,4 @@
+pub mod Demands
+pub mod Request
+pub mod History
+pub mod Traces
