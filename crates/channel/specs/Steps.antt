@@ -40,9 +40,17 @@ metOf s h =
       held = slotAt s (target s f) .length;
     }
 
--- a call that takes nothing
-abbrev pub stillWith : Channel → ℕ → Fed
-stillWith s n = record { number = n; taken = 0; written = 0; channel = s }
+-- a state with another slot at a place
+abbrev pub slotSet : Channel → ℕ → Slot → Channel
+slotSet s i x = record { dead = s .dead; pending = s .pending; slots = set (s .slots) i x; streams = s .streams }
+
+-- an answer with a state
+abbrev pub answerWith : Channel → ℕ → ℕ → ℕ → Fed
+answerWith s number taken written = record { number = number; taken = taken; written = written; channel = s }
+
+-- an answer with so many more bytes taken before
+abbrev pub behindWith : ℕ → Fed → Fed
+behindWith n a = record { number = a .number; taken = n + a .taken; written = a .written; channel = a .channel }
 
 -- a byte that refuses its frame
 abbrev pub refusedWith : Channel → ℕ → Fed

@@ -9,21 +9,21 @@ ghost use lib.ListN.{length, take};
 ghost use Rattle.frame.specs.Header.{lengthOf};
 ghost use Rattle.session.specs.Session.{read};
 ghost use Rattle.channel.specs.Channel.{channel, fedWith, feedOf, heldShape, shape};
-ghost use Rattle.channel.specs.Steps.{receiver, putFrom, stillWith, quietCount};
+ghost use Rattle.channel.specs.Steps.{receiver, putFrom, behindWith, quietCount};
+
+impl Fed {
+    // The answer with so many more bytes taken before.
+    fn behind(self, n: usize) -> Fed
+        requires { ⌜ n + self .taken < 18446744073709551616 ⌝ }
+        ensures { λ r. ⌜ r ≡ behindWith n self ⌝ }
+    {
+        let mut next = self;
+        next.taken = n + self.taken;
+        next
+    }
+}
 
 impl Channel {
-    // The answer of a call that takes nothing.
-    fn still(self, n: u8) -> Fed
-        ensures { λ r. ⌜ r ≡ stillWith self n ⌝ }
-    {
-        Fed {
-            number: n,
-            taken: 0,
-            written: 0,
-            channel: self,
-        }
-    }
-
     // How many of left bytes can be put before one is judged.
     fn quiet(self, work: &[u8], left: usize) -> usize
         requires { ⌜ heldShape (receiver self (now work)) ≡ true ⌝ }
@@ -49,7 +49,7 @@ impl Channel {
         let size = frame::payload_length(&work[..]);
         if at - 7 == size {
             if out.len() - done < 4103 {
-                return self.still(5);
+                return self.answer(5, 0, 0);
             }
             work[at] = b;
             return self.judge(work, out, done);
@@ -60,12 +60,7 @@ impl Channel {
         }
         let mut next = self;
         next.pending = 8;
-        Fed {
-            number: 0,
-            taken: 1,
-            written: 0,
-            channel: next,
-        }
+        next.answer(0, 1, 0)
     }
 
     // Takes the bytes up to the next one that is judged, and that one.
@@ -79,21 +74,10 @@ impl Channel {
         let mut next = self;
         next.pending = pending + q;
         if q == rest.len() {
-            return Fed {
-                number: 0,
-                taken: q,
-                written: 0,
-                channel: next,
-            };
+            return next.answer(0, q, 0);
         }
         let last = next.take_byte(work, rest[q], out, done);
-        let channel = last.channel;
-        Fed {
-            number: last.number,
-            taken: q + last.taken,
-            written: last.written,
-            channel,
-        }
+        last.behind(q)
     }
 
     // Reads the input, piece after piece.
@@ -111,20 +95,10 @@ impl Channel {
             let channel = piece.channel;
             next = channel;
             if piece.number != 0 {
-                return Fed {
-                    number: piece.number,
-                    taken,
-                    written,
-                    channel: next,
-                };
+                return next.answer(piece.number, taken, written);
             }
         }
-        Fed {
-            number: 0,
-            taken,
-            written,
-            channel: next,
-        }
+        next.answer(0, taken, written)
     }
 
     // Whether rule 3 does not apply.
@@ -150,16 +124,16 @@ impl Channel {
         ensures { λ r. ⌜ fedWith r (now (work .exit)) (now (out .exit)) ≡ feedOf self (now (work .entry)) (now (input .entry)) (now (out .entry)) ⌝ }
     {
         if work.len() < 20488 {
-            return self.still(2);
+            return self.answer(2, 0, 0);
         }
         if !self.is_shaped(&work[..]) {
-            return self.still(3);
+            return self.answer(3, 0, 0);
         }
         if self.dead != 0 {
-            return self.still(self.dead);
+            return self.answer(self.dead, 0, 0);
         }
         if out.len() < 4103 {
-            return self.still(1);
+            return self.answer(1, 0, 0);
         }
         self.read(work, input, out)
     }

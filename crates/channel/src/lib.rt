@@ -18,7 +18,7 @@ ghost use Rattle.rules.specs.Rules.{firstBroken};
 ghost use Rattle.rules.specs.Stages.{viewed, headRules};
 ghost use Rattle.channel.specs.Receiver.{freshState, collected, dataSlot, judge};
 ghost use Rattle.channel.specs.Channel.{deadFits, plainShape, finishOf, finished, fedWith};
-ghost use Rattle.channel.specs.Steps.{putFrom, stepped, metOf, refusedWith, acceptedWith};
+ghost use Rattle.channel.specs.Steps.{putFrom, stepped, metOf, slotSet, answerWith, refusedWith, acceptedWith};
 
 // The dead number, 0 while live; how many bytes of the frame under way are in the work area; the slots; and the streams, true for open:
 // stream 2k + 1 at index k.
@@ -86,38 +86,55 @@ impl Channel {
         dead_fits(self.dead)
     }
 
+    // The state with another slot at an index; as it is where there is none.
+    fn with_slot(self, i: usize, x: Slot) -> Channel
+        ensures { λ r. ⌜ r ≡ slotSet self i x ⌝ }
+    {
+        let slots = self.slots;
+        let changed = requests::with_slot(slots, i, x);
+        let mut next = self;
+        next.slots = changed;
+        next
+    }
+
+    fn finished(self, number: u8) -> Finished
+        ensures { λ r. ⌜ r ≡ finished (record { next = self; number = number }) ⌝ }
+    {
+        Finished {
+            number,
+            channel: self,
+        }
+    }
+
     // The owner's finish of a request: 3, the dead number, 4, or 0 and the slot is free.
     pub fn finish(self, id: u16) -> Finished
         ensures { λ r. ⌜ r ≡ finished (finishOf self id) ⌝ }
     {
         if !self.is_plain() {
-            return Finished {
-                number: 3,
-                channel: self,
-            };
+            return self.finished(3);
         }
         if self.dead != 0 {
-            return Finished {
-                number: self.dead,
-                channel: self,
-            };
+            return self.finished(self.dead);
         }
         let slots = self.slots;
         let i = requests::find(slots, Want::Used(id));
-        if i < 8 {
-            let s = slots[i];
-            let phase = s.phase;
-            if requests::phase_code(phase) == 3 {
-                let mut next = self;
-                next.slots[i] = Slot::free();
-                return Finished {
-                    number: 0,
-                    channel: next,
-                };
-            }
+        let x = requests::slot_at(slots, i);
+        let phase = x.phase;
+        if requests::phase_code(phase) == 3 {
+            let next = self.with_slot(i, Slot::free());
+            return next.finished(0);
         }
-        Finished {
-            number: 4,
+        self.finished(4)
+    }
+
+    // The answer with this state.
+    fn answer(self, number: u8, taken: usize, written: usize) -> Fed
+        ensures { λ r. ⌜ r ≡ answerWith self number taken written ⌝ }
+    {
+        Fed {
+            number,
+            taken,
+            written,
             channel: self,
         }
     }
@@ -216,30 +233,18 @@ impl Channel {
         let mut next = self;
         next.dead = n;
         next.pending = 0;
-        Fed {
-            number: n,
-            taken: 1,
-            written: 0,
-            channel: next,
-        }
+        next.answer(n, 1, 0)
     }
 
     // The answer to a byte whose frame is accepted, with the slot that it leaves at an index and the length of its record.
     fn accepted(self, h: Header, i: usize, x: Slot, written: usize) -> Fed
         ensures { λ r. ⌜ r ≡ acceptedWith self h i x written ⌝ }
     {
-        let slots = self.slots;
         let stream = (h.stream / 2) as usize;
-        let mut next = self;
+        let mut next = self.with_slot(i, x);
         next.pending = 0;
-        next.slots = requests::with_slot(slots, i, x);
         next.streams[stream] = !h.ends();
-        Fed {
-            number: 0,
-            taken: 1,
-            written,
-            channel: next,
-        }
+        next.answer(0, 1, written)
     }
 
     // A command frame that rules 12 to 23 let pass.

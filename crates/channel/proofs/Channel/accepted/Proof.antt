@@ -1,11 +1,13 @@
--- `Channel::accepted` meets its contract, by what the two calls ensure.
+-- `Channel::accepted` meets its contract, by what the calls ensure.
 -- Assumes nothing.
 use borrow.Author.Needs.{needs}
 use Rattle.channel.proofs.Channel.accepted.Statement.{statement}
 use Rattle.channel.proofs.Channel.accepted.Tie as tie
 
 returns : tie.Need-returns
-returns c = rw (c .before .with-slot .ensures, c .ends .ensures)
+returns c =
+    let e = c .before in
+    rw (c .answer .ensures, e .before .with-slot .ensures, e .ends .ensures)
 
 pub accepted-spec : {M : Type 1} → statement M
 accepted-spec =
@@ -15,4 +17,5 @@ accepted-spec =
     (λ c κs. search needs)
     (λ c κs. search needs)
     (λ c. search needs)
+    (λ c κs. search needs)
     returns)

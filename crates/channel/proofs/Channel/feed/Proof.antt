@@ -25,7 +25,7 @@ returns : tie.Need-returns
 unfolding unchanged
 returns c =
     let a = c .before .before .before .before .before .args in
-    rw (c .still .ensures) (sym (feed-small channel (receiver (a .self) (a .work .now)) (a .input .now) (a .out .now) (lt-leb workArea (length (a .work .now)) (c .before .if1 .taken))))
+    rw (c .answer .ensures) (sym (feed-small channel (receiver (a .self) (a .work .now)) (a .input .now) (a .out .now) (lt-leb workArea (length (a .work .now)) (c .before .if1 .taken))))
 
 -- the work area is long enough, and the state is looked at
 module _ (i : tie.After-is-shaped) where
@@ -51,7 +51,7 @@ returns-2 : tie.Need-returns-2
 unfolding unchanged
 returns-2 c =
     let i = c .before .before in
-    rw (c .still2 .ensures) (sym (feed-unshaped channel (r i) (input i) (out i) (roomy i) (sym (i .is-shaped .ensures) ∙ not-true _ (c .before .if2 .taken))))
+    rw (c .answer2 .ensures) (sym (feed-unshaped channel (r i) (input i) (out i) (roomy i) (sym (i .is-shaped .ensures) ∙ not-true _ (c .before .if2 .taken))))
 
 -- and it is in shape
 module _ (e : tie.Else2) where
@@ -69,14 +69,14 @@ unfolding unchanged
 returns-3 c =
     let e = c .before .before .before in
     let i = e .before in
-    rw (c .still3 .ensures) (sym (feed-dead channel (r i) (input i) (out i) (roomy i) (shaped e) (r i .state .dead) refl (c .before .if3 .taken)))
+    rw (c .answer3 .ensures) (sym (feed-dead channel (r i) (input i) (out i) (roomy i) (shaped e) (r i .state .dead) refl (c .before .if3 .taken)))
 
 returns-4 : tie.Need-returns-4
 unfolding unchanged
 returns-4 c =
     let e = c .before .before .before .before in
     let i = e .before in
-    rw (c .still4 .ensures) (sym (feed-short channel (r i) (input i) (out i) (roomy i) (shaped e) (c .before .before .if3 .left) (lt-ltb (length (out i)) longestRecord (c .before .if4 .taken))))
+    rw (c .answer4 .ensures) (sym (feed-short channel (r i) (input i) (out i) (roomy i) (shaped e) (c .before .before .if3 .left) (lt-ltb (length (out i)) longestRecord (c .before .if4 .taken))))
 
 read-requires : tie.Need-read-requires
 read-requires c κs =

@@ -13,7 +13,7 @@ use Rattle.frame.specs.Limits.{workArea}
 use Rattle.frame.specs.Header.{lengthOf}
 use Rattle.session.specs.Session.{Feed, Reading, read}
 use Rattle.session.proofs.Pieces.{read-all}
-use Rattle.channel.specs.declared.Channel.{Channel}
+use Rattle.channel.specs.declared.Fed.{Fed}
 use Rattle.channel.specs.Receiver.{Receiver}
 use Rattle.channel.specs.Channel.{channel, fedWith}
 use Rattle.channel.specs.Steps.{receiver, putFrom, quietCount}
@@ -107,18 +107,19 @@ add-written c = let t = c .before .before .before .before .before .before in ome
 
 same-length-1 : tie.Need-same-length Inv-loop μ-loop
 same-length-1 c =
-    let t = c .before .before .before .before .before .before .before .before .before in
+    let t = c .before .before .before .before .before .before .before .before .before .before in
     t .take-piece .kept .1 .0 ∙ at t .loop .inv .0
 
 same-length-2 : tie.Need-same-length-2 Inv-loop μ-loop
 same-length-2 c =
-    let t = c .before .before .before .before .before .before .before .before .before in
+    let t = c .before .before .before .before .before .before .before .before .before .before in
     t .take-piece .kept .1 .1 .1 .0 ∙ same-length _ _ _ (so (at t))
 
 returns : tie.Need-returns Inv-loop μ-loop
 returns c =
-    let t = c .before .before .before .before .before .before .before .before .before in
-    ap (further t) (answers t) ∙ so-off _ _ _ (so (at t)) (size t) (λ z. c .if1 .taken (number t ∙ z))
+    let t = c .before .before .before .before .before .before .before .before .before .before in
+    ap (λ (a : Fed). fedWith a (t .take-piece .last .1 .0) (t .take-piece .last .1 .1 .1 .0)) (c .answer .ensures)
+    ∙ ap (further t) (answers t) ∙ so-off _ _ _ (so (at t)) (size t) (λ z. c .before .if1 .taken (number t ∙ z))
 
 loop-less : tie.Need-loop-less Inv-loop μ-loop
 loop-less c =
@@ -131,7 +132,9 @@ loop-again c =
     (t .take-piece .kept .1 .0 ∙ at t .loop .inv .0, subst (Onward t) (sym (answers t)) (so-on _ _ _ (so (at t)) (size t) (sym (number t) ∙ c .if1 .left)))
 
 returns-2 : tie.Need-returns-2 Inv-loop μ-loop
-returns-2 c = so-end _ _ _ (so (c .before)) (c .loop-test .left)
+returns-2 c =
+    let a = c .before .before in
+    ap (λ (f : Fed). fedWith f (a .loop .work) (a .loop .out)) (c .answer2 .ensures) ∙ so-end _ _ _ (so a) (c .before .loop-test .left)
 
 pub read-spec : {M : Type 1} → statement M
 read-spec =
@@ -146,11 +149,13 @@ read-spec =
     take-piece-requires
     add-taken
     add-written
+    (λ c κs. search needs)
     same-length-1
     same-length-2
     returns
     loop-less
     loop-again
-    (λ c. c .before .loop .inv .0)
-    (λ c. same-length _ _ _ (so (c .before)))
+    (λ c κs. search needs)
+    (λ c. c .before .before .loop .inv .0)
+    (λ c. same-length _ _ _ (so (c .before .before)))
     returns-2)

@@ -48,7 +48,7 @@ returns : tie.Need-returns
 returns c =
     let p = c .before .before .before in
     let s = start p in
-    rw (c .still .ensures, byte-short (state p) (work p) (s .args .b) (s .pre .1) (late p) _ (omega (arith, late p, size p, c .before .before .if1 .taken)) (c .before .if2 .taken), write-none)
+    rw (c .answer .ensures, byte-short (state p) (work p) (s .args .b) (s .pre .1) (late p) _ (omega (arith, late p, size p, c .before .before .if1 .taken)) (c .before .if2 .taken), write-none)
 
 judge-requires : tie.Need-judge-requires
 judge-requires c κs =
@@ -79,10 +79,10 @@ returns-3 c =
 
 returns-4 : tie.Need-returns-4
 returns-4 c =
-    let i = c .before in
+    let i = c .before .before in
     let p = i .before in
     let s = start p in
-    rw (byte-open (state p) (work p) (s .args .b) (s .pre .1) (late p) (length (s .args .out .now) - s .args .done) (eighth p (i .if1 .left)) (λ e. i .if1 .left (omega (arith, size p))) (omega (arith, size p, c .if3 .left)), write-none)
+    rw (c .answer2 .ensures, byte-open (state p) (work p) (s .args .b) (s .pre .1) (late p) (length (s .args .out .now) - s .args .done) (eighth p (i .if1 .left)) (λ e. i .if1 .left (omega (arith, size p))) (omega (arith, size p, c .before .if3 .left)), write-none)
 
 pub take-byte-spec : {M : Type 1} → statement M
 take-byte-spec =
@@ -103,5 +103,6 @@ take-byte-spec =
     (λ c κs. search needs)
     (λ c. search needs)
     returns-3
+    (λ c κs. search needs)
     (λ c. search needs)
     returns-4)

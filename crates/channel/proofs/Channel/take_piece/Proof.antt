@@ -19,7 +19,7 @@ use Rattle.session.proofs.Pieces.{read-within}
 use Rattle.channel.specs.declared.Fed.{Fed}
 use Rattle.channel.specs.Receiver.{Receiver}
 use Rattle.channel.specs.Channel.{channel, fedWith, plainShape, heldShape, shape}
-use Rattle.channel.specs.Steps.{receiver, putFrom}
+use Rattle.channel.specs.Steps.{receiver, putFrom, answerWith, behindWith}
 use Rattle.channel.proofs.QuietLaws.{Quiet, advanced, count, read-put, quiet-count, quiet-done, quiet-held, quiet-below}
 use Rattle.channel.proofs.Channel.take_piece.Statement.{statement}
 use Rattle.channel.proofs.Channel.take_piece.Tie as tie
@@ -42,9 +42,6 @@ ahead r q w = record {
 }
 
 -- an answer with more taken
-abbrev further : ℕ → Fed → Fed
-further q a = record { number = a .number; taken = q + a .taken; written = a .written; channel = a .channel }
-
 abbrev longer : ℕ → Feed Receiver → Feed Receiver
 longer q f = record { number = f .number; taken = q + f .taken; written = f .written; next = f .next; output = f .output }
 
@@ -92,14 +89,14 @@ module _ (r : Receiver) (rest : List ℕ) (q : ℕ) (w : List ℕ) (k : Put r re
 
   -- the answer where they are all there is
   ended : (out : List ℕ) (done : ℕ) → q ≡ length rest
-      → fedWith (record { number = 0; taken = q; written = 0; channel = ahead r q w .state }) w out
+      → fedWith (answerWith (ahead r q w .state) 0 q 0) w out
       ≡ putFrom out done (read channel r (length out - done) (take (suc (count r (length rest))) rest))
   ended out done e = sym (ap (putFrom out done) (at-end (length out - done) e) ∙ rw write-none)
 
   -- the answer with the next one's
   went-on : (last : Fed) (work out new : List ℕ) (done : ℕ) → q < length rest
       → fedWith last work new ≡ putFrom out done (read channel (ahead r q w) (length out - done) (getD rest q 0 ∷ []))
-      → fedWith (further q last) work new ≡ putFrom out done (read channel r (length out - done) (take (suc (count r (length rest))) rest))
+      → fedWith (behindWith q last) work new ≡ putFrom out done (read channel r (length out - done) (take (suc (count r (length rest))) rest))
   went-on last work out new done l e = ap (longer q) e ∙ sym (ap (putFrom out done) (with-next (length out - done) l))
 
 quiet-requires : tie.Need-quiet-requires
@@ -138,9 +135,10 @@ module _ (c : tie.After-put) where
 
 returns : tie.Need-returns
 returns c =
-    let p = c .before .before .before in
+    let p = c .before .before .before .before in
     let a = start (asked p) .args in
-    ended (before (asked p)) (a .rest .now) (asked p .quiet .result) (p .put .last .0) (made p) (a .out .now) (a .done) (c .if1 .taken)
+    ap (λ (f : Fed). fedWith f (p .put .last .0) (a .out .now)) (c .answer .ensures)
+    ∙ ended (before (asked p)) (a .rest .now) (asked p .quiet .result) (p .put .last .0) (made p) (a .out .now) (a .done) (c .before .if1 .taken)
 
 module _ (c : tie.Else1) where
   abbrev stored : tie.After-put
@@ -173,17 +171,18 @@ module _ (c : tie.After-take-byte) where
   few : c .take-byte .result .taken ≤ 1
   few = one (c .take-byte .result) _ _ _ _ _ _ _ (c .take-byte .ensures)
 
-add-t13 : tie.Need-add-t13
-add-t13 c =
-    let t = c .before .before .before .before .before .before in
+behind-requires : tie.Need-behind-requires
+behind-requires c κs =
+    let t = c .before .before .before .before in
     omega (arith, few t, below (asked (stored (arm t))))
 
 returns-2 : tie.Need-returns-2
 returns-2 c =
-    let t = c .before .before .before .before .before .before in
+    let t = c .before .before .before .before .before in
     let p = stored (arm t) in
     let a = start (asked p) .args in
-    went-on (before (asked p)) (a .rest .now) (asked p .quiet .result) (p .put .last .0) (made p) (t .take-byte .result) (t .take-byte .last .1 .0) (a .out .now)
+    ap (λ (f : Fed). fedWith f (t .take-byte .last .1 .0) (t .take-byte .last .1 .1 .1 .0)) (c .behind .ensures)
+    ∙ went-on (before (asked p)) (a .rest .now) (asked p .quiet .result) (p .put .last .0) (made p) (t .take-byte .result) (t .take-byte .last .1 .0) (a .out .now)
     (t .take-byte .last .1 .1 .1 .0) (a .done) (left-over (arm t)) (t .take-byte .ensures)
 
 pub take-piece-spec : {M : Type 1} → statement M
@@ -194,11 +193,12 @@ take-piece-spec =
     slice-aggregate-put
     (λ c κs. search needs)
     add-next
+    (λ c κs. search needs)
     (λ c. search needs)
     returns
     shared-slice-read-take-byte
     take-byte-requires
-    add-t13
+    behind-requires
     (λ c. search needs)
     (λ c. search needs)
     returns-2)
