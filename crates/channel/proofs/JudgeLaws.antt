@@ -26,7 +26,8 @@ use Rattle.rules.proofs.RuleLaws.{passed, in-range}
 use Rattle.rules.proofs.StageLaws.{no-other, rest-more, rest-whole, rest-other, all-head, all-rest, check-range}
 use Rattle.session.specs.Session.{Feed}
 use Rattle.channel.specs.declared.Channel.{Channel}
-use Rattle.channel.specs.Receiver.{Receiver, slotAt, target, commandLength, command, placed, streamOpen, viewOf, refused, refusedWork, collected, commandSlot, dataSlot, slotsAfter, streamsAfter, accepted, judge}
+use Rattle.requests.specs.Slots.{collected, dataSlot}
+use Rattle.channel.specs.Receiver.{Receiver, slotAt, target, commandLength, command, placed, streamOpen, viewOf, refused, refusedWork, commandSlot, slotsAfter, streamsAfter, accepted, judge}
 use Rattle.channel.specs.Channel.{fedWith}
 use Rattle.channel.specs.Steps.{putFrom, stepped, metOf, refusedWith, acceptedWith}
 use Rattle.channel.proofs.ReceiverLaws.{room-of}

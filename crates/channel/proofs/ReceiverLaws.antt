@@ -18,8 +18,8 @@ use Rattle.frame.specs.Header.{lengthOf}
 use Rattle.frame.specs.Records.{recordOf, two, bit}
 use Rattle.session.specs.Session.{Step}
 use Rattle.session.proofs.Laws.{not-zero, Keeps}
-use Rattle.channel.specs.Receiver.{Receiver, slotAt, placeOf, slotOf, lowestFree, target, commandLength, placed, command, refused, refusedWork, commandSlot, enter, dataSlot, slotsAfter, accepted, judge, put, isWhole, tooLong, counted, takeByte, freed, finishState, finish, viewOf}
-use Rattle.requests.specs.Slots.{inPhase, isId, slotFits, idIn, slotsFit}
+use Rattle.channel.specs.Receiver.{Receiver, slotAt, placeOf, slotOf, lowestFree, target, commandLength, placed, command, refused, refusedWork, commandSlot, slotsAfter, accepted, judge, put, isWhole, tooLong, counted, takeByte, freed, finishState, finish, viewOf}
+use Rattle.requests.specs.Slots.{inPhase, isId, slotFits, idIn, slotsFit, enter, dataSlot}
 use Rattle.requests.specs.Phases.{freeSlot, isPhase, code}
 use Rattle.channel.specs.Channel.{deadFits, plainShape, heldShape, shape, channel}
 use Rattle.rules.specs.Rules.{recordWith, firstBroken, isCommand, rules}

@@ -4,10 +4,9 @@ use mathlib.Core.Bool.{Bool, true, false, cond, _&&_, not}
 use mathlib.Core.List.{List, [], _++_}
 use lib.ListN.{length, take, drop, getD, set, replicate}
 use lib.Dec.{leb, eqb}
-use Rattle.requests.specs.declared.Phase.{Phase}
-use Rattle.requests.specs.declared.Phase.the-variants.{Free, Collecting, Waiting, Running}
+use Rattle.requests.specs.declared.Phase.the-variants.{Free, Running}
 use Rattle.requests.specs.declared.Slot.{Slot}
-use Rattle.requests.specs.Slots.{inPhase, firstSlot, isId}
+use Rattle.requests.specs.Slots.{inPhase, firstSlot, isId, collected, dataSlot}
 use Rattle.channel.specs.declared.Channel.{Channel}
 use Rattle.frame.specs.Limits.{slotCount, streamCount, partStart}
 use Rattle.session.specs.Session.{Step, Reply}
@@ -84,24 +83,8 @@ refused n s w = record {
 unfoldable pub refusedWork : ℕ → Channel → Frame → List ℕ → List ℕ
 refusedWork n s f w = cond (leb 24 n && leb n 26) (placed s f w) w
 
--- the slot of a command frame's request, with the command's length
-abbrev pub collected : Frame → ℕ → Slot
-collected f n = record {
-  id = f .request;
-  phase = cond (isMore f) Collecting (cond (dataFollows f) Waiting Running);
-  databit = dataFollows f;
-  length = cond (isMore f) n 0;
-}
-
 unfoldable pub commandSlot : Channel → Frame → Slot
 commandSlot s f = collected f (commandLength s f)
-
-unfoldable pub enter : Phase → Slot → Slot
-enter p x = record { id = x .id; phase = p; databit = x .databit; length = x .length }
-
--- the last data frame makes the request running
-unfoldable pub dataSlot : Slot → Frame → Slot
-dataSlot x f = cond (isLast f) (enter Running x) x
 
 unfoldable pub slotsAfter : Channel → Frame → List Slot
 slotsAfter s f =

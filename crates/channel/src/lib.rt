@@ -2,7 +2,6 @@
 mod feed;
 
 use frame::Header;
-use requests::Phase;
 use requests::Slot;
 use requests::Want;
 use rules::Met;
@@ -16,7 +15,7 @@ ghost use Rattle.frame.specs.Header.{lengthOf, headerOf};
 ghost use Rattle.frame.specs.Frame.{framed, frameOf};
 ghost use Rattle.rules.specs.Rules.{firstBroken};
 ghost use Rattle.rules.specs.Stages.{viewed, headRules};
-ghost use Rattle.channel.specs.Receiver.{freshState, collected, dataSlot, judge};
+ghost use Rattle.channel.specs.Receiver.{freshState, judge};
 ghost use Rattle.channel.specs.Channel.{deadFits, plainShape, finishOf, finished, fedWith};
 ghost use Rattle.channel.specs.Steps.{putFrom, stepped, metOf, slotSet, answerWith, refusedWith, acceptedWith};
 
@@ -155,50 +154,6 @@ fn place(work: &mut [u8], slot: usize, held: usize, n: usize)
     buffer::put(&mut work[start..stop], held, &payload[..n]);
 }
 
-// The slot of a request after a command frame, with the command's length.
-fn command_slot(h: Header, size: usize) -> Slot
-    ensures { λ r. ⌜ r ≡ collected (framed h []) size ⌝ }
-{
-    let databit = h.data_follows();
-    if h.is_more() {
-        return Slot {
-            id: h.request,
-            phase: Phase::Collecting,
-            databit,
-            length: size,
-        };
-    }
-    if databit {
-        return Slot {
-            id: h.request,
-            phase: Phase::Waiting,
-            databit,
-            length: 0,
-        };
-    }
-    Slot {
-        id: h.request,
-        phase: Phase::Running,
-        databit,
-        length: 0,
-    }
-}
-
-// A request's slot after a data frame.
-fn data_slot(x: Slot, h: Header) -> Slot
-    ensures { λ r. ⌜ r ≡ dataSlot x (framed h []) ⌝ }
-{
-    if h.is_last() {
-        return Slot {
-            id: x.id,
-            phase: Phase::Running,
-            databit: x.databit,
-            length: x.length,
-        };
-    }
-    x
-}
-
 impl Channel {
     // What the frame of a header meets.
     fn met(self, h: Header) -> Met
@@ -206,24 +161,8 @@ impl Channel {
     {
         let slots = self.slots;
         let stream = (h.stream / 2) as usize;
-        let place = requests::find(slots, Want::Used(h.request));
-        let lowest = requests::find(slots, Want::Unused);
-        let mut target = place;
-        if h.is_new() {
-            target = lowest;
-        }
-        let x = requests::slot_at(slots, place);
-        let y = requests::slot_at(slots, target);
-        let phase = x.phase;
-        Met {
-            is_open: self.streams[stream],
-            place,
-            phase,
-            databit: x.databit,
-            full: 8 <= lowest,
-            target,
-            held: y.length,
-        }
+        let is_open = self.streams[stream];
+        rules::look_up(slots, is_open, h)
     }
 
     // The answer to a byte that refuses its frame.
@@ -255,7 +194,7 @@ impl Channel {
         let target = m.target;
         let size = m.held + h.length;
         place(work, target, m.held, h.length);
-        let x = command_slot(h, size);
+        let x = requests::command_slot(h, size);
         if h.is_more() {
             return self.accepted(h, target, x, 0);
         }
@@ -289,7 +228,7 @@ impl Channel {
         if h.kind == 2 {
             let slots = self.slots;
             let x = requests::slot_at(slots, m.place);
-            let y = data_slot(x, h);
+            let y = requests::data_slot(x, h);
             let written = frame::put_record(out, done, 2, h.request, h.is_last(), &work[8..end]);
             return self.accepted(h, m.place, y, written);
         }

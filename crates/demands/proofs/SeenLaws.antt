@@ -17,8 +17,8 @@ use Rattle.frame.specs.Limits.{maxCommand, slotCount, frameArea, workArea, part
 use Rattle.session.specs.Session.{Step, Reply}
 use Rattle.frame.specs.Frame.{Frame, isEven, isType, isNew, isMore, dataFollows, isLast}
 use Rattle.demands.specs.Demands.{freshOn}
-use Rattle.channel.specs.Receiver.{Receiver, freshState, slotAt, placeOf, slotOf, lowestFree, target, commandLength, placed, command, commandSlot, enter, dataSlot, slotsAfter, streamsAfter, accepted, put, counted, takeByte, freed, finishState, finish, viewOf}
-use Rattle.requests.specs.Slots.{inPhase, isId, firstSlot, slotFits, apart, slotsFit}
+use Rattle.channel.specs.Receiver.{Receiver, freshState, slotAt, placeOf, slotOf, lowestFree, target, commandLength, placed, command, commandSlot, slotsAfter, streamsAfter, accepted, put, counted, takeByte, freed, finishState, finish, viewOf}
+use Rattle.requests.specs.Slots.{inPhase, isId, firstSlot, slotFits, apart, slotsFit, enter, dataSlot}
 use Rattle.requests.specs.Phases.{freeSlot, isPhase, code}
 use Rattle.channel.specs.Channel.{deadFits, heldShape}
 use Rattle.demands.specs.Request.{ending, itemOf, Request, idle, moved}

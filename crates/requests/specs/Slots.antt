@@ -5,7 +5,7 @@ use mathlib.Core.Bool.{Bool, true, false, cond, _&&_, _||_, not}
 use mathlib.Core.List.{List, [], _∷_}
 use lib.Dec.{leb, eqb}
 use Rattle.frame.specs.Limits.{maxCommand}
-use Rattle.frame.specs.Frame.{isEven}
+use Rattle.frame.specs.Frame.{Frame, isEven, isMore, dataFollows, isLast}
 use Rattle.requests.specs.declared.Phase.{Phase}
 use Rattle.requests.specs.declared.Phase.the-variants.{Free, Collecting, Waiting, Running}
 use Rattle.requests.specs.declared.Slot.{Slot}
@@ -51,3 +51,21 @@ apart x xs = inPhase Free x || not (idIn (x .id) xs)
 unfoldable pub slotsFit : List Slot → Bool
 slotsFit [] = true
 slotsFit (x ∷ xs) = slotFits x && apart x xs && slotsFit xs
+
+-- ---- what frames do to a slot
+
+-- the slot of a command frame's request, with the command's length
+abbrev pub collected : Frame → ℕ → Slot
+collected f n = record {
+  id = f .request;
+  phase = cond (isMore f) Collecting (cond (dataFollows f) Waiting Running);
+  databit = dataFollows f;
+  length = cond (isMore f) n 0;
+}
+
+unfoldable pub enter : Phase → Slot → Slot
+enter p x = record { id = x .id; phase = p; databit = x .databit; length = x .length }
+
+-- the last data frame makes the request running
+unfoldable pub dataSlot : Slot → Frame → Slot
+dataSlot x f = cond (isLast f) (enter Running x) x

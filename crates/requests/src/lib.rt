@@ -1,8 +1,10 @@
 // Requests: their phases, and the slots that hold them.
+use frame::Header;
 ghost use mathlib.Core.Path.{_≡_};
-ghost use Rattle.frame.specs.Frame.{isEven};
+ghost use mathlib.Core.List.{[]};
+ghost use Rattle.frame.specs.Frame.{framed, isEven};
 ghost use Rattle.requests.specs.Phases.{code, freeSlot};
-ghost use Rattle.requests.specs.Slots.{firstSlot, isId, meets, slotFits, idIn, apart, slotsFit};
+ghost use Rattle.requests.specs.Slots.{firstSlot, isId, meets, slotFits, idIn, apart, slotsFit, collected, dataSlot};
 ghost use lib.ListN.{drop, getD, set};
 
 // A request is collecting (its command isn't whole), waiting for data, or running. A free slot holds none.
@@ -198,4 +200,48 @@ pub fn slots_fit(slots: [Slot; 8]) -> bool
         }
     }
     true
+}
+
+// The slot of a request after a command frame, with the command's length.
+pub fn command_slot(h: Header, size: usize) -> Slot
+    ensures { λ r. ⌜ r ≡ collected (framed h []) size ⌝ }
+{
+    let databit = h.data_follows();
+    if h.is_more() {
+        return Slot {
+            id: h.request,
+            phase: Phase::Collecting,
+            databit,
+            length: size,
+        };
+    }
+    if databit {
+        return Slot {
+            id: h.request,
+            phase: Phase::Waiting,
+            databit,
+            length: 0,
+        };
+    }
+    Slot {
+        id: h.request,
+        phase: Phase::Running,
+        databit,
+        length: 0,
+    }
+}
+
+// A request's slot after a data frame.
+pub fn data_slot(x: Slot, h: Header) -> Slot
+    ensures { λ r. ⌜ r ≡ dataSlot x (framed h []) ⌝ }
+{
+    if h.is_last() {
+        return Slot {
+            id: x.id,
+            phase: Phase::Running,
+            databit: x.databit,
+            length: x.length,
+        };
+    }
+    x
 }

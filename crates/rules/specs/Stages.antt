@@ -2,11 +2,33 @@
 -- These are definitions: they assume nothing.
 use Prim.Native.Nat.{ℕ, zero, suc, _+_}
 use mathlib.Core.Bool.{Bool, cond}
-use mathlib.Core.List.{List}
-use lib.ListN.{take, drop}
+use mathlib.Core.List.{List, []}
+use lib.ListN.{length, take, drop, getD}
+use lib.Dec.{leb}
 use Rattle.frame.specs.declared.Header.{Header}
+use Rattle.frame.specs.Frame.{framed, isNew}
+use Rattle.requests.specs.declared.Phase.the-variants.{Free}
+use Rattle.requests.specs.declared.Slot.{Slot}
+use Rattle.requests.specs.Phases.{freeSlot}
+use Rattle.requests.specs.Slots.{inPhase, firstSlot, isId}
 use Rattle.rules.specs.declared.Met.{Met}
 use Rattle.rules.specs.Rules.{View, Rule, rules}
+
+-- what the frame of a header meets among the slots; a command's slot is the lowest free one if the command is new, else its request's
+abbrev pub metIn : List Slot → Bool → Header → Met
+metIn slots isOpen h =
+    let place = firstSlot (isId (h .request)) slots in
+    let lowest = firstSlot (inPhase Free) slots in
+    let target = cond (isNew (framed h [])) lowest place in
+    record {
+      «is_open» = isOpen;
+      place = place;
+      phase = getD slots place freeSlot .phase;
+      databit = getD slots place freeSlot .databit;
+      full = leb (length slots) lowest;
+      target = target;
+      held = getD slots target freeSlot .length;
+    }
 
 -- what a frame meets, with the command's bytes
 abbrev pub viewed : Met → Header → List ℕ → View

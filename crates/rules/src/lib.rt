@@ -1,6 +1,8 @@
 // The frame rules 12 to 29, in number order, over a frame's header, what the frame meets, and its payload.
 use frame::Header;
 use requests::Phase;
+use requests::Slot;
+use requests::Want;
 ghost use mathlib.Core.Path.{_≡_};
 ghost use mathlib.Core.Bool.{_&&_, not};
 ghost use mathlib.Core.List.{[]};
@@ -10,7 +12,7 @@ ghost use Rattle.frame.specs.Limits.{maxCommand};
 ghost use Rattle.frame.specs.Frame.{framed, isType};
 ghost use Rattle.frame.specs.Settings.{isIdentity};
 ghost use Rattle.rules.specs.Rules.{firstBroken, checkOf};
-ghost use Rattle.rules.specs.Stages.{viewed, headRules, lastRules, tried};
+ghost use Rattle.rules.specs.Stages.{metIn, viewed, headRules, lastRules, tried};
 
 // What a frame meets: whether its stream is open; the index of its request's slot, 8 where it has none; the request's phase and data bit;
 // whether no slot is free; and, of a command frame, the index of its slot and how many bytes of the command the slot's part holds.
@@ -22,6 +24,30 @@ pub struct Met {
     pub full: bool,
     pub target: usize,
     pub held: usize,
+}
+
+// What the frame of a header meets among the slots, on a stream that is open or not.
+pub fn look_up(slots: [Slot; 8], is_open: bool, h: Header) -> Met
+    ensures { λ r. ⌜ r ≡ metIn slots «is_open» h ⌝ }
+{
+    let place = requests::find(slots, Want::Used(h.request));
+    let lowest = requests::find(slots, Want::Unused);
+    let mut target = place;
+    if h.is_new() {
+        target = lowest;
+    }
+    let x = requests::slot_at(slots, place);
+    let y = requests::slot_at(slots, target);
+    let phase = x.phase;
+    Met {
+        is_open,
+        place,
+        phase,
+        databit: x.databit,
+        full: 8 <= lowest,
+        target,
+        held: y.length,
+    }
 }
 
 // A rule is tried where none before it is broken: the number of the first broken one so far, 0 where none is.

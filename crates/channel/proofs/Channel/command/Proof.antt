@@ -20,7 +20,8 @@ use Rattle.rules.specs.Stages.{viewed, headRules}
 use Rattle.session.specs.Session.{Feed}
 use Rattle.channel.specs.declared.Channel.{Channel}
 use Rattle.channel.specs.declared.Fed.{Fed}
-use Rattle.channel.specs.Receiver.{Receiver, command, collected, judge}
+use Rattle.requests.specs.Slots.{collected}
+use Rattle.channel.specs.Receiver.{Receiver, command, judge}
 use Rattle.channel.specs.Channel.{fedWith}
 use Rattle.channel.specs.Steps.{putFrom, stepped, metOf, refusedWith, acceptedWith}
 use Rattle.channel.proofs.JudgeLaws.{has-room, read-back, answers-more, answers-refused, answers-command}

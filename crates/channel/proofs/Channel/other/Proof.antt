@@ -21,7 +21,8 @@ use Rattle.rules.specs.Stages.{viewed, headRules, lastRules}
 use Rattle.session.specs.Session.{Feed}
 use Rattle.channel.specs.declared.Channel.{Channel}
 use Rattle.channel.specs.declared.Fed.{Fed}
-use Rattle.channel.specs.Receiver.{Receiver, slotAt, dataSlot, judge}
+use Rattle.requests.specs.Slots.{dataSlot}
+use Rattle.channel.specs.Receiver.{Receiver, slotAt, judge}
 use Rattle.channel.specs.Channel.{fedWith}
 use Rattle.channel.specs.Steps.{putFrom, stepped, metOf, refusedWith, acceptedWith}
 use Rattle.channel.proofs.JudgeLaws.{answers-last, answers-data, answers-settings}

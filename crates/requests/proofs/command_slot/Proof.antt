@@ -1,9 +1,9 @@
--- `channel::command_slot` meets its contract, by the tests.
+-- `requests::command_slot` meets its contract, by the tests.
 -- Assumes nothing.
 use mathlib.Core.Path.{sym, _∙_}
 use borrow.Author.Needs.{needs}
-use Rattle.channel.proofs.command_slot.Statement.{statement}
-use Rattle.channel.proofs.command_slot.Tie as tie
+use Rattle.requests.proofs.command_slot.Statement.{statement}
+use Rattle.requests.proofs.command_slot.Tie as tie
 
 returns : tie.Need-returns
 returns c =

@@ -1,10 +1,10 @@
--- `channel::data_slot` meets its contract, by the test.
+-- `requests::data_slot` meets its contract, by the test.
 -- Assumes nothing.
 use mathlib.Core.Path.{sym, _∙_}
 use borrow.Author.Needs.{needs}
-use Rattle.channel.specs.Receiver.{dataSlot, enter}
-use Rattle.channel.proofs.data_slot.Statement.{statement}
-use Rattle.channel.proofs.data_slot.Tie as tie
+use Rattle.requests.specs.Slots.{dataSlot, enter}
+use Rattle.requests.proofs.data_slot.Statement.{statement}
+use Rattle.requests.proofs.data_slot.Tie as tie
 
 returns : tie.Need-returns
 unfolding dataSlot enter
