@@ -70,20 +70,22 @@ impl Header {
     pub fn flags_fit(self) -> bool
         ensures { λ r. ⌜ r ≡ flagsFit (framed self []) ⌝ }
     {
-        if self.kind == 1 {
-            let either = self.flags % 4;
+        let kind = self.kind;
+        let flags = self.flags;
+        if kind == 1 {
+            let either = flags % 4;
             if either == 0 {
                 return false;
             }
             return either != 3;
         }
-        if self.kind == 2 {
-            if self.flags == 0x01 {
+        if kind == 2 {
+            if flags == 0x01 {
                 return true;
             }
-            return self.flags == 0x02;
+            return flags == 0x02;
         }
-        self.flags == 0x02
+        flags == 0x02
     }
 }
 
