@@ -143,8 +143,9 @@ table =
     ∷ look (withX (0x3B ∷ 0x80 ∷ 0 ∷ 0 ∷ 0 ∷ 0 ∷ 0 ∷ 0 ∷ 0 ∷ [])) 0 8 (pos 0)
     -- T9
     ∷ look (withX (0x20 ∷ [])) 0 0 (negsuc 0)
-    -- T10
+    -- T10, and in the channel
     ∷ look [] 24 24 (pos 0)
+    ∷ row (calls fresh (fed (header 0 0 1 1 0x11) ∷ [])) (24 ∷ []) []
     -- T11, both ways: the outer map, `args` and six arrays are eight levels; an array is no integer
     ∷ look (withX (0x81 ∷ 0x81 ∷ 0x81 ∷ 0x81 ∷ 0x81 ∷ 0x81 ∷ 0 ∷ [])) 0 7 (pos 0)
     ∷ look (withX (0x81 ∷ 0x81 ∷ 0x81 ∷ 0x81 ∷ 0x81 ∷ 0x81 ∷ 0x80 ∷ [])) 24 24 (pos 0)
