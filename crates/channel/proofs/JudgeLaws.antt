@@ -29,7 +29,7 @@ use Rattle.channel.specs.declared.Channel.{Channel}
 use Rattle.requests.specs.Slots.{collected, dataSlot}
 use Rattle.channel.specs.Receiver.{Receiver, slotAt, target, commandLength, command, placed, streamOpen, viewOf, refused, refusedWork, commandSlot, slotsAfter, streamsAfter, accepted, judge}
 use Rattle.channel.specs.Channel.{fedWith}
-use Rattle.channel.specs.Steps.{putFrom, stepped, metOf, refusedWith, acceptedWith}
+use Rattle.channel.specs.Steps.{putFrom, stepped, judgedInto, metOf, refusedWith, acceptedWith}
 use Rattle.channel.proofs.ReceiverLaws.{room-of}
 
 -- the work area that a refusal leaves
@@ -71,7 +71,7 @@ module _ (s : Channel) (w out : List ℕ) (done : ℕ) (wide : workArea ≤ leng
   size = m .held + h .length
 
   abbrev goal : Feed Receiver
-  goal = putFrom out done (stepped (judge s f w))
+  goal = judgedInto out done s w
 
   -- the work area holds the whole payload
   payload-length : length payload ≡ h .length

@@ -1,19 +1,24 @@
 -- What the private functions under feed answer, by the definitions of the receiver and of reading.
 -- These are definitions: they assume nothing.
-use Prim.Native.Nat.{ℕ, suc, _+_, _-_, _/_, min}
+use Prim.Native.Nat.{ℕ, _+_, _-_, _/_, _≤_, min}
+use mathlib.Core.Path.{_≡_}
 use mathlib.Core.Bool.{cond, not}
 use mathlib.Core.List.{List, []}
 use lib.ListN.{length, set}
 use lib.Dec.{leb, ltb}
 use Rattle.buffer.specs.Bytes.{write}
 use Rattle.frame.specs.declared.Header.{Header}
-use Rattle.frame.specs.Frame.{framed, ends}
+use Rattle.frame.specs.Limits.{maxPayload, workArea}
+use Rattle.frame.specs.Header.{lengthOf, headerOf}
+use Rattle.frame.specs.Frame.{framed, frameOf, ends}
 use Rattle.requests.specs.declared.Slot.{Slot}
 use Rattle.rules.specs.declared.Met.{Met}
+use Rattle.rules.specs.Rules.{firstBroken}
+use Rattle.rules.specs.Stages.{viewed, headRules}
 use Rattle.session.specs.Session.{Step, Reading, Feed}
 use Rattle.channel.specs.declared.Channel.{Channel}
 use Rattle.channel.specs.declared.Fed.{Fed}
-use Rattle.channel.specs.Receiver.{Receiver, slotAt, slotOf, placeOf, lowestFree, target, streamOpen}
+use Rattle.channel.specs.Receiver.{Receiver, slotAt, slotOf, placeOf, lowestFree, target, streamOpen, judge}
 
 abbrev pub receiver : Channel → List ℕ → Receiver
 receiver s w = record { state = s; work = w }
@@ -68,3 +73,18 @@ acceptedWith s h i x n = record {
 -- how many of these bytes can be put before one is judged: up to the eighth of the frame, or up to its last
 unfoldable pub quietCount : ℕ → ℕ → ℕ → ℕ
 quietCount pending size left = cond (ltb pending 8) (min left (7 - pending)) (min left (7 + size - pending))
+
+-- ---- a whole frame in the work area
+
+-- what the rules make of it, its record put into the output from a place on
+abbrev pub judgedInto : List ℕ → ℕ → Channel → List ℕ → Feed Receiver
+judgedInto out done s w = putFrom out done (stepped (judge s (frameOf w) w))
+
+-- a live channel, and a frame that 11 lets pass
+abbrev pub HasFrame : Channel → List ℕ → Type 0
+HasFrame s w = (workArea ≤ length w) × (lengthOf w ≤ maxPayload) × (s .dead ≡ 0)
+
+-- and its header, what it meets, and that rules 12 to 23 let it pass
+abbrev pub Passed : Channel → Header → Met → List ℕ → Type 0
+Passed s h m w =
+    (workArea ≤ length w) × (lengthOf w ≤ maxPayload) × (s .dead ≡ 0) × (h ≡ headerOf w) × (m ≡ metOf s h) × (firstBroken headRules (framed h []) (viewed m h []) ≡ 0)

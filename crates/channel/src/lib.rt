@@ -6,18 +6,13 @@ use requests::Slot;
 use requests::Want;
 use rules::Met;
 ghost use mathlib.Core.Path.{_≡_};
-ghost use mathlib.Core.List.{[]};
 ghost use Prim.Native.Nat.{_+_, _≤_, _<_};
 ghost use lib.ListN.{length, take, drop};
 ghost use Rattle.buffer.specs.Bytes.{write};
 ghost use Rattle.frame.specs.Limits.{partStart};
-ghost use Rattle.frame.specs.Header.{lengthOf, headerOf};
-ghost use Rattle.frame.specs.Frame.{framed, frameOf};
-ghost use Rattle.rules.specs.Rules.{firstBroken};
-ghost use Rattle.rules.specs.Stages.{viewed, headRules};
-ghost use Rattle.channel.specs.Receiver.{freshState, judge};
+ghost use Rattle.channel.specs.Receiver.{freshState};
 ghost use Rattle.channel.specs.Channel.{deadFits, plainShape, finishOf, finished, fedWith};
-ghost use Rattle.channel.specs.Steps.{putFrom, stepped, metOf, slotSet, answerWith, refusedWith, acceptedWith};
+ghost use Rattle.channel.specs.Steps.{metOf, slotSet, answerWith, refusedWith, acceptedWith, judgedInto, HasFrame, Passed};
 
 // The dead number, 0 while live; how many bytes of the frame under way are in the work area; the slots; and the streams, true for open:
 // stream 2k + 1 at index k.
@@ -188,8 +183,8 @@ impl Channel {
 
     // A command frame that rules 12 to 23 let pass.
     fn command(self, h: Header, m: Met, work: &mut [u8], out: &mut [u8], done: usize) -> Fed
-        requires { ⌜ (20488 ≤ length (now work)) × (lengthOf (now work) ≤ 4096) × (self .dead ≡ 0) × (h ≡ headerOf (now work)) × (m ≡ metOf self h) × (h .kind ≡ 1) × (firstBroken headRules (framed h []) (viewed m h []) ≡ 0) ⌝ }
-        ensures { λ r. ⌜ fedWith r (now (work .exit)) (now (out .exit)) ≡ putFrom (now (out .entry)) done (stepped (judge self (frameOf (now (work .entry))) (now (work .entry)))) ⌝ }
+        requires { ⌜ (h .kind ≡ 1) × Passed self h m (now work) ⌝ }
+        ensures { λ r. ⌜ fedWith r (now (work .exit)) (now (out .exit)) ≡ judgedInto (now (out .entry)) done self (now (work .entry)) ⌝ }
     {
         let target = m.target;
         let size = m.held + h.length;
@@ -217,8 +212,8 @@ impl Channel {
 
     // Data or settings that rules 12 to 23 let pass.
     fn other(self, h: Header, m: Met, work: &[u8], out: &mut [u8], done: usize) -> Fed
-        requires { ⌜ (20488 ≤ length (now work)) × (lengthOf (now work) ≤ 4096) × (self .dead ≡ 0) × (h ≡ headerOf (now work)) × (m ≡ metOf self h) × (h .kind ≡ 1 → ⊥) × (firstBroken headRules (framed h []) (viewed m h []) ≡ 0) ⌝ }
-        ensures { λ r. ⌜ fedWith r (now (work .entry)) (now (out .exit)) ≡ putFrom (now (out .entry)) done (stepped (judge self (frameOf (now (work .entry))) (now (work .entry)))) ⌝ }
+        requires { ⌜ (h .kind ≡ 1 → ⊥) × Passed self h m (now work) ⌝ }
+        ensures { λ r. ⌜ fedWith r (now (work .entry)) (now (out .exit)) ≡ judgedInto (now (out .entry)) done self (now (work .entry)) ⌝ }
     {
         let end = 8 + h.length;
         let n = rules::last_number(h, m, &work[8..end]);
@@ -237,8 +232,8 @@ impl Channel {
 
     // The frame rules 12 to 29 on the whole frame in the work area.
     fn judge(self, work: &mut [u8], out: &mut [u8], done: usize) -> Fed
-        requires { ⌜ (20488 ≤ length (now work)) × (lengthOf (now work) ≤ 4096) × (self .dead ≡ 0) ⌝ }
-        ensures { λ r. ⌜ fedWith r (now (work .exit)) (now (out .exit)) ≡ putFrom (now (out .entry)) done (stepped (judge self (frameOf (now (work .entry))) (now (work .entry)))) ⌝ }
+        requires { ⌜ HasFrame self (now work) ⌝ }
+        ensures { λ r. ⌜ fedWith r (now (work .exit)) (now (out .exit)) ≡ judgedInto (now (out .entry)) done self (now (work .entry)) ⌝ }
     {
         let h = frame::read_header(&work[..]);
         let m = self.met(h);

@@ -21,9 +21,9 @@ use Rattle.session.specs.Session.{Feed}
 use Rattle.channel.specs.declared.Channel.{Channel}
 use Rattle.channel.specs.declared.Fed.{Fed}
 use Rattle.requests.specs.Slots.{collected}
-use Rattle.channel.specs.Receiver.{Receiver, command, judge}
+use Rattle.channel.specs.Receiver.{Receiver, command}
 use Rattle.channel.specs.Channel.{fedWith}
-use Rattle.channel.specs.Steps.{putFrom, stepped, metOf, refusedWith, acceptedWith}
+use Rattle.channel.specs.Steps.{judgedInto, metOf, refusedWith, acceptedWith}
 use Rattle.channel.proofs.JudgeLaws.{has-room, read-back, answers-more, answers-refused, answers-command}
 use Rattle.channel.proofs.Channel.command.Statement.{statement}
 use Rattle.channel.proofs.Channel.command.Tie as tie
@@ -47,7 +47,7 @@ module _ {s : Channel} {h : Header} {m : Met} {w : List ℕ} (a : Asked s h m w)
   size = m .held + h .length
 
   abbrev goal : Feed Receiver
-  goal = putFrom out done (stepped (judge s (frameOf w) w))
+  goal = judgedInto out done s w
 
   m-same : m ≡ metOf s (headerOf w)
   m-same = a .m-is ∙ ap (metOf s) (a .h-is)
@@ -95,7 +95,7 @@ module _ (a : tie.Start) where
   eight = sym (length-map (a .args .self .slots) _) ∙ a .good .0 .1 .1 .1 .1 .0 .1 .0 .1
 
   asked : Asked (a .args .self) (a .args .h) (a .args .m) (a .args .work .now)
-  asked = record { wide = a .pre .0; short = a .pre .1; count = eight; live = a .pre .2; h-is = a .pre .3; m-is = a .pre .4; kind = a .pre .5; passes = a .pre .6 }
+  asked = record { wide = a .pre .1 .0; short = a .pre .1 .1; count = eight; live = a .pre .1 .2; h-is = a .pre .1 .3; m-is = a .pre .1 .4; kind = a .pre .0; passes = a .pre .1 .5 }
 
   fits : (a .args .m .target < 8) × (a .args .m .held + a .args .h .length ≤ 2048)
   fits = room asked [] 0
@@ -104,7 +104,7 @@ place-requires : tie.Need-place-requires
 place-requires c κs =
     let a = c .before .before .before .before .before in
     let (b, d) = fits a in
-    (a .pre .0, b, d)
+    (a .pre .1 .0, b, d)
 
 module _ (i : tie.After-is-more) where
   abbrev placed : tie.After-place

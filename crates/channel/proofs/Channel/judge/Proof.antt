@@ -14,17 +14,16 @@ use Rattle.rules.specs.Rules.{firstBroken}
 use Rattle.rules.specs.Stages.{viewed, headRules}
 use Rattle.channel.specs.declared.Channel.{Channel}
 use Rattle.channel.specs.declared.Fed.{Fed}
-use Rattle.channel.specs.Receiver as receiver
 use Rattle.channel.specs.Channel.{fedWith}
-use Rattle.channel.specs.Steps.{putFrom, stepped, metOf, refusedWith}
+use Rattle.channel.specs.Steps.{judgedInto, metOf, HasFrame, Passed, refusedWith}
 use Rattle.channel.proofs.JudgeLaws.{answers-head}
 use Rattle.channel.proofs.Channel.judge.Statement.{statement}
 use Rattle.channel.proofs.Channel.judge.Tie as tie
 
 -- a frame that rules 12 to 23 refuse, over plain values
-refuses : (s : Channel) (h : Header) (m : Met) (w out : List ℕ) (done n : ℕ) (r : Fed) → (workArea ≤ length w) × (lengthOf w ≤ maxPayload) × (s .dead ≡ 0)
+refuses : (s : Channel) (h : Header) (m : Met) (w out : List ℕ) (done n : ℕ) (r : Fed) → HasFrame s w
     → length (s .slots) ≡ slotCount → h ≡ headerOf w → m ≡ metOf s h → n ≡ firstBroken headRules (framed h []) (viewed m h []) → (n ≡ 0 → ⊥)
-    → r ≡ refusedWith s n → fedWith r w out ≡ putFrom out done (stepped (receiver.judge s (frameOf w) w))
+    → r ≡ refusedWith s n → fedWith r w out ≡ judgedInto out done s w
 refuses s h m w out done n r p count h-is m-is n-is o r-is =
     rw r-is (sym (answers-head s w out done (p .0) (p .1) count (p .2) n (sym (rw (m-is, h-is) at n-is)) o))
 
@@ -39,6 +38,13 @@ returns c =
     let b = x .before .before .before .before in
     refuses _ _ _ _ _ _ _ _ (b .pre) (eight b) (x .read-header .ensures) (n .before .met .ensures) (n .head-number .ensures) (c .before .if1 .taken) (c .refused .ensures)
 
+-- rules 12 to 23 let the frame pass
+passed : (i : tie.Else1) → Passed (i .before .before .before .before .before .before .before .args .self) (i .before .before .before .read-header .result) (i .before .before .met .result) (i .before .before .before .before .before .before .before .args .work .now)
+passed i =
+    let n = i .before in
+    let b = n .before .before .before .before .before .before in
+    (b .pre .0, b .pre .1, b .pre .2, n .before .before .read-header .ensures, n .before .met .ensures, sym (n .head-number .ensures) ∙ i .if1 .left)
+
 pub judge-spec : {M : Type 1} → statement M
 judge-spec =
     tie.close
@@ -49,11 +55,11 @@ judge-spec =
     (λ c κs. search needs)
     (λ c. search needs)
     returns
-    (λ c κs. search needs)
+    (λ c κs. (c .before .before .if2 .taken, passed (c .before .before .before .before)))
     (λ c. search needs)
     (λ c. search needs)
     (λ c. search needs)
-    (λ c κs. search needs)
+    (λ c κs. (c .before .before .if2 .left, passed (c .before .before .before .before)))
     (λ c. search needs)
     (λ c. search needs)
     (λ c. search needs))

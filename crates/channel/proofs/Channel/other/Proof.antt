@@ -22,20 +22,19 @@ use Rattle.session.specs.Session.{Feed}
 use Rattle.channel.specs.declared.Channel.{Channel}
 use Rattle.channel.specs.declared.Fed.{Fed}
 use Rattle.requests.specs.Slots.{dataSlot}
-use Rattle.channel.specs.Receiver.{Receiver, slotAt, judge}
+use Rattle.channel.specs.Receiver.{Receiver, slotAt}
 use Rattle.channel.specs.Channel.{fedWith}
-use Rattle.channel.specs.Steps.{putFrom, stepped, metOf, refusedWith, acceptedWith}
+use Rattle.channel.specs.Steps.{judgedInto, metOf, Passed, refusedWith, acceptedWith}
 use Rattle.channel.proofs.JudgeLaws.{answers-last, answers-data, answers-settings}
 use Rattle.channel.proofs.Channel.other.Statement.{statement}
 use Rattle.channel.proofs.Channel.other.Tie as tie
 
 -- the contract over plain values, with what the caller shows and the number of the slots
 module _ (s : Channel) (h : Header) (m : Met) (w out : List ℕ) (done : ℕ)
-    (p : (workArea ≤ length w) × (lengthOf w ≤ maxPayload) × (s .dead ≡ 0) × (h ≡ headerOf w) × (m ≡ metOf s h) × (h .kind ≡ 1 → ⊥)
-    × (firstBroken headRules (framed h []) (viewed m h []) ≡ 0))
+    (p : (h .kind ≡ 1 → ⊥) × Passed s h m w)
     (count : length (s .slots) ≡ slotCount) where
   abbrev goal : Feed Receiver
-  goal = putFrom out done (stepped (judge s (frameOf w) w))
+  goal = judgedInto out done s w
 
   -- the payload, as the code cuts it out
   abbrev payload : List ℕ
@@ -51,30 +50,30 @@ module _ (s : Channel) (h : Header) (m : Met) (w out : List ℕ) (done : ℕ)
   cut = omega arith
 
   head : firstBroken headRules (framed (headerOf w) []) (viewed (metOf s (headerOf w)) (headerOf w) []) ≡ 0
-  head = rw (p .4, p .3) at (p .6)
+  head = rw (p .1 .4, p .1 .3) at (p .1 .5)
 
   refuses : (n : ℕ) (r : Fed) → n ≡ number → (n ≡ 0 → ⊥) → r ≡ refusedWith s n → fedWith r w out ≡ goal
   refuses n r q o r-is =
       rw r-is
-      (sym (answers-last s w out done (p .0) (p .1) count (p .2) head (rw (p .3) at (p .5)) n (sym (rw (cut, p .4, p .3) at q)) o))
+      (sym (answers-last s w out done (p .1 .0) (p .1 .1) count (p .1 .2) head (rw (p .1 .3) at (p .0)) n (sym (rw (cut, p .1 .4, p .1 .3) at q)) o))
 
   takes-data : (n k : ℕ) (x y : Slot) (last : Bool) (after : List ℕ) (r : Fed) → n ≡ number → n ≡ 0 → h .kind ≡ 2
       → x ≡ getD (s .slots) (m .place) freeSlot → y ≡ dataSlot x (framed h []) → last ≡ isLast (framed h [])
       → (k ≡ length (new last)) × (after ≡ write out done (new last)) → r ≡ acceptedWith s h (m .place) y k → fedWith r w after ≡ goal
   unfolding slotAt
   takes-data n k x y last after r q z t x-is y-is last-is (k-is, after-is) r-is =
-      rw (r-is, y-is, x-is, k-is, after-is, last-is, cut, p .4, p .3)
-      (sym (answers-data s w out done (p .0) (p .1) count (p .2) head (rw (p .3) at (p .5)) (sym (rw (cut, p .4, p .3) at q) ∙ z) (rw (p .3) at t)))
+      rw (r-is, y-is, x-is, k-is, after-is, last-is, cut, p .1 .4, p .1 .3)
+      (sym (answers-data s w out done (p .1 .0) (p .1 .1) count (p .1 .2) head (rw (p .1 .3) at (p .0)) (sym (rw (cut, p .1 .4, p .1 .3) at q) ∙ z) (rw (p .1 .3) at t)))
 
   takes-settings : (n : ℕ) (x : Slot) (r : Fed) → n ≡ number → n ≡ 0 → (h .kind ≡ 2 → ⊥) → x ≡ freeSlot → r ≡ acceptedWith s h 8 x 0 → fedWith r w out ≡ goal
   takes-settings n x r q z t x-is r-is =
-      rw (r-is, x-is, p .3)
-      (sym (answers-settings s w out done (p .0) (p .1) count (p .2) head (rw (p .3) at (p .5)) (sym (rw (cut, p .4, p .3) at q) ∙ z) (rw (p .3) at t)))
+      rw (r-is, x-is, p .1 .3)
+      (sym (answers-settings s w out done (p .1 .0) (p .1 .1) count (p .1 .2) head (rw (p .1 .3) at (p .0)) (sym (rw (cut, p .1 .4, p .1 .3) at q) ∙ z) (rw (p .1 .3) at t)))
 
 module _ (b : tie.Start) where
   small : b .args .h .length ≤ maxPayload
   unfolding headerOf
-  small = omega (arith, ap (λ (h : Header). h .length) (b .pre .3))
+  small = omega (arith, ap (λ (h : Header). h .length) (b .pre .1 .3))
 
   -- the number of the slots stands in what the parameter is handed with
   eight : length (b .args .self .slots) ≡ slotCount
