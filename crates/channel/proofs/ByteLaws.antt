@@ -1,12 +1,12 @@
 -- A byte that is judged, read alone: the eighth of its frame, or its last.
 -- Assumes nothing.
 use Prim.Native.Nat.{ℕ, suc, _+_, _-_, _≤_, _<_, min}
-use mathlib.Core.Path.{_≡_, refl, sym, ap, _∙_}
+use mathlib.Core.Path.{_≡_, refl, ap, _∙_}
 use mathlib.Core.Logic.{_⊎_, inl, inr}
 use mathlib.Core.Bool.{Bool, true, false, cond, _&&_}
 use mathlib.Core.List.{List, [], _∷_}
 use native.Mathlib.Omega.{arith}
-use lib.ListN.{length, set}
+use lib.ListN.{set}
 use lib.Dec.{ltb, eqb}
 use borrow.Author.Tests.{eqb-true, eq-eqb, ne-eqb, ltb-true, ltb-false, lt-ltb, le-ltb}
 use Rattle.frame.specs.Limits.{maxPayload, longestRecord}
@@ -16,7 +16,7 @@ use Rattle.session.specs.Session.{Step, Reading, read}
 use Rattle.session.proofs.Laws.{read-short}
 use Rattle.session.proofs.Pieces.{read-one}
 use Rattle.channel.specs.declared.Channel.{Channel}
-use Rattle.channel.specs.Receiver.{Receiver, slotAt, placeOf, lowestFree, target, commandLength, command, placed, streamOpen, viewOf, refused, refusedWork, commandSlot, slotsAfter, streamsAfter, accepted, judge, put, isWhole, tooLong, counted, takeByte}
+use Rattle.channel.specs.Receiver.{Receiver, slotAt, placeOf, lowestFree, target, commandLength, command, placed, streamOpen, viewOf, refused, refusedWork, commandSlot, slotsAfter, streamsAfter, accepted, judge, put, isWhole, tooLong, counted}
 use Rattle.channel.specs.Channel.{channel, heldShape}
 use Rattle.channel.specs.Steps.{receiver, stepped, quietCount}
 use Rattle.channel.proofs.ReceiverLaws.{length-later, held-e, take-live}

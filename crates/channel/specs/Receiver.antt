@@ -13,7 +13,7 @@ use Rattle.session.specs.Session.{Step, Reply}
 use Rattle.requests.specs.Phases.{freeSlot}
 use Rattle.rules.specs.Rules.{View, isCommand, overlong, rules, firstBroken, recordWith}
 use Rattle.buffer.specs.Bytes.{write}
-use Rattle.frame.specs.Frame.{Frame, frameOf, ends, isType, isNew, isMore, dataFollows, isLast}
+use Rattle.frame.specs.Frame.{Frame, frameOf, ends, isType, isNew}
 use Rattle.frame.specs.Header.{lengthOf}
 
 pub record Receiver : Type 0 where

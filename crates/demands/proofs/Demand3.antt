@@ -3,10 +3,7 @@
 use Prim.Native.Nat.{ℕ}
 use mathlib.Core.Path.{_≡_, refl}
 use mathlib.Core.Bool.{Bool, true, false, cond}
-use lib.ListN.{length}
-use borrow.Author.Tests.{le-leb}
 use Rattle.channel.specs.declared.Channel.{Channel}
-use Rattle.frame.specs.Limits.{workArea}
 use Rattle.session.specs.Session.{Reply, session, own}
 use Rattle.channel.specs.Receiver.{Receiver, finishState, finish}
 use Rattle.demands.specs.Demands.{Sound, Demand3, StaysSound, Progress, KeepsLength, CountsHold}

@@ -1,5 +1,5 @@
 -- A receiver whose tables say what the history says judges a frame as the history does, and still does after it. Assumes nothing.
-use Prim.Native.Nat.{ℕ, _+_, _-_, _/_, _%_, _≤_, _<_}
+use Prim.Native.Nat.{ℕ, _+_, _/_, _%_, _≤_, _<_}
 use mathlib.Core.Path.{_≡_, refl, sym, ap, _∙_, subst}
 use mathlib.Core.Bool.{Bool, true, false, _&&_, _||_, not, cond, true≢false, false≢true, Bool·beq}
 use mathlib.Core.List.{List, [], _∷_, _++_}

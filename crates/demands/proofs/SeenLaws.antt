@@ -1,5 +1,5 @@
 -- The receiver seen from one request: its own frames and finishes move it as `Request` says, all else leaves it. Assumes nothing.
-use Prim.Native.Nat.{ℕ, zero, suc, _+_, _-_, _≤_, _<_}
+use Prim.Native.Nat.{ℕ, zero, suc, _+_, _≤_, _<_}
 use mathlib.Core.Path.{_≡_, refl, sym, ap, _∙_, subst}
 use mathlib.Core.Logic.{_⊎_, inl, inr}
 use mathlib.Core.Bool.{Bool, true, false, _&&_, _||_, not, cond}
@@ -14,10 +14,10 @@ use Rattle.requests.specs.declared.Phase.the-variants.{Free, Collecting, Waitin
 use Rattle.requests.specs.declared.Slot.{Slot}
 use Rattle.channel.specs.declared.Channel.{Channel}
 use Rattle.frame.specs.Limits.{maxCommand, slotCount, frameArea, workArea, partStart}
-use Rattle.session.specs.Session.{Step, Reply}
+use Rattle.session.specs.Session.{Reply}
 use Rattle.frame.specs.Frame.{Frame, isEven, isType, isNew, isMore, dataFollows, isLast}
 use Rattle.demands.specs.Demands.{freshOn}
-use Rattle.channel.specs.Receiver.{Receiver, freshState, slotAt, placeOf, slotOf, lowestFree, target, commandLength, placed, command, commandSlot, slotsAfter, streamsAfter, accepted, put, counted, takeByte, freed, finishState, finish, viewOf}
+use Rattle.channel.specs.Receiver.{Receiver, freshState, slotAt, placeOf, slotOf, lowestFree, target, commandLength, placed, command, commandSlot, slotsAfter, streamsAfter, accepted, put, freed, finishState, finish, viewOf}
 use Rattle.requests.specs.Slots.{inPhase, isId, firstSlot, slotFits, apart, slotsFit, enter, dataSlot}
 use Rattle.requests.specs.Phases.{freeSlot, isPhase, code}
 use Rattle.channel.specs.Channel.{deadFits, heldShape}

@@ -10,7 +10,7 @@ use lib.ListN.{length, take, drop, length-append, length-drop}
 use lib.Seq.{take-append-seam}
 use lib.Dec.{ltb}
 use borrow.Author.Tests.{ltb-false, le-ltb}
-use Rattle.session.specs.Session.{Machine, Step, Feed, Reading, Outcome, Call, feeds, owns, Event, took, after, read, unchanged, wrote, feed, own, fed, answered, uncut, session, events}
+use Rattle.session.specs.Session.{Machine, Feed, Reading, Outcome, Call, feeds, owns, Event, took, after, read, unchanged, wrote, feed, own, fed, answered, uncut, session, events}
 
 and-false : (a : Bool) → (a && false) ≡ false
 and-false true = refl

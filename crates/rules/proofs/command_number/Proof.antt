@@ -1,7 +1,7 @@
 -- `rules::command_number` meets its contract: the check's number is a byte.
 -- Assumes nothing.
 use Prim.Native.Nat.{_<_}
-use mathlib.Core.Path.{_≡_, _∙_, ap}
+use mathlib.Core.Path.{_∙_, ap}
 use native.Mathlib.Omega.{arith}
 use borrow.Author.Needs.{needs}
 use Rattle.command_map.specs.declared.Checked.{Checked}

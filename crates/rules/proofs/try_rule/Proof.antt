@@ -1,8 +1,8 @@
 -- `rules::try_rule` meets its contract, by its tests.
 -- Assumes nothing.
 use Prim.Native.Nat.{ℕ, zero, suc}
-use mathlib.Core.Path.{_≡_, refl, sym, _∙_}
-use mathlib.Core.Bool.{Bool, cond}
+use mathlib.Core.Path.{_≡_, refl}
+use mathlib.Core.Bool.{Bool}
 use Rattle.rules.specs.Stages.{tried}
 use Rattle.rules.proofs.try_rule.Statement.{statement}
 use Rattle.rules.proofs.try_rule.Tie as tie

@@ -1,14 +1,14 @@
 -- `Channel::judge` meets its contract: rules 12 to 23 refuse the frame, or a command, data or settings go on to the rules left.
 -- Assumes nothing.
-use Prim.Native.Nat.{ℕ, _≤_}
+use Prim.Native.Nat.{ℕ}
 use mathlib.Core.Path.{_≡_, sym, _∙_}
 use mathlib.Core.List.{List, []}
 use lib.ListN.{length, length-map}
 use borrow.Author.Needs.{needs}
 use Rattle.frame.specs.declared.Header.{Header}
-use Rattle.frame.specs.Limits.{maxPayload, slotCount, workArea}
-use Rattle.frame.specs.Header.{lengthOf, headerOf}
-use Rattle.frame.specs.Frame.{framed, frameOf}
+use Rattle.frame.specs.Limits.{slotCount}
+use Rattle.frame.specs.Header.{headerOf}
+use Rattle.frame.specs.Frame.{framed}
 use Rattle.rules.specs.declared.Met.{Met}
 use Rattle.rules.specs.Rules.{firstBroken}
 use Rattle.rules.specs.Stages.{viewed, headRules}

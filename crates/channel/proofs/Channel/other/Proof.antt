@@ -9,9 +9,9 @@ use lib.ListN.{length, take, drop, getD, length-map}
 use borrow.Author.Needs.{needs}
 use Rattle.buffer.specs.Bytes.{write}
 use Rattle.frame.specs.declared.Header.{Header}
-use Rattle.frame.specs.Limits.{maxPayload, slotCount, workArea}
-use Rattle.frame.specs.Header.{lengthOf, headerOf}
-use Rattle.frame.specs.Frame.{framed, frameOf, isLast}
+use Rattle.frame.specs.Limits.{maxPayload, slotCount}
+use Rattle.frame.specs.Header.{headerOf}
+use Rattle.frame.specs.Frame.{framed, isLast}
 use Rattle.frame.specs.Records.{requestRecord}
 use Rattle.requests.specs.declared.Slot.{Slot}
 use Rattle.requests.specs.Phases.{freeSlot}
