@@ -105,6 +105,24 @@ pub fn case(seed: u64, index: u64) -> Case {
     }
 }
 
+/// The bytes of a command that passes the check.
+pub fn good(random: &mut Random) -> Vec<u8> {
+    let mut draft = Draft::good(random);
+    faults::twist(&mut draft, random);
+    finish(draft, random).command
+}
+
+/// The bytes of a command with a reason for 24, 25 or 26.
+pub fn faulty(random: &mut Random, number: u8) -> Vec<u8> {
+    let mut draft = Draft::good(random);
+    match number {
+        24 => faults::form(&mut draft, random),
+        25 => faults::shape(&mut draft, random),
+        _ => faults::double(&mut draft, random),
+    }
+    finish(draft, random).command
+}
+
 fn drafted(random: &mut Random) -> Case {
     let mut draft = Draft::good(random);
     edit(&mut draft, random);

@@ -1,6 +1,6 @@
 //! Judges the tree of a command, and looks arguments up in it.
 
-use crate::value::{read_whole, Value};
+use crate::value::{read_entries, read_whole, Value};
 
 #[derive(Clone, Copy, Debug, PartialEq, Eq)]
 pub enum Refusal {
@@ -115,6 +115,27 @@ pub fn check(command: &[u8]) -> u32 {
     number(read(command))
 }
 
+/// The name's content; no bytes if the command is refused.
+pub fn name(command: &[u8]) -> &[u8] {
+    read(command).map_or(&[], |command| command.name)
+}
+
+/// The whole item of an argument; no bytes if its number is a refusal.
+pub fn argument<'a>(command: &'a [u8], key: &[u8]) -> &'a [u8] {
+    let passed = read(command).is_ok().then_some(command);
+    passed
+        .and_then(|command| item_under(command, b"args"))
+        .and_then(|args| item_under(args, key))
+        .unwrap_or(&[])
+}
+
+/// What stands under a key in the map that fills `map`.
+fn item_under<'a>(map: &'a [u8], key: &[u8]) -> Option<&'a [u8]> {
+    let mut entries = read_entries(map)?.into_iter();
+    let found = entries.find(|(held, _)| *held == Value::Bytes(key));
+    found.map(|(_, item)| item)
+}
+
 pub fn argument_number(command: &[u8], key: &[u8]) -> u32 {
     number(read(command).and_then(|command| command.argument(key).map(|_| ())))
 }
@@ -146,6 +167,19 @@ mod tests {
         let command = read(&bytes).unwrap();
         assert_eq!(command.name, b"set");
         assert!(command.args.is_empty());
+    }
+
+    #[test]
+    fn parts() {
+        let bytes = with_argument(b"\x59\0\x02hi");
+        assert_eq!(name(&bytes), b"set");
+        assert_eq!(argument(&bytes, b"k"), b"\x59\0\x02hi");
+        assert!(argument(&bytes, b"no").is_empty());
+        assert!(argument(&bytes, b"name").is_empty());
+        assert!(name(&bytes[1..]).is_empty());
+        assert!(argument(&bytes[1..], b"k").is_empty());
+        let first = [b"\xa2\x44args\xa2\x41j\x81\x20\x41k\x05", NAME].concat();
+        assert_eq!(argument(&first, b"j"), b"\x81\x20");
     }
 
     /// T8 and T9.

@@ -1,5 +1,10 @@
-//! A second reading of the command rules, written from the scope paper alone.
-//! It reads the bytes into a tree of values first and judges the tree after.
+//! A second reading of the rules, written from the scope paper alone.
+//! A command's bytes are read into a tree of values first and the tree is
+//! judged after. The channel is told by the history of its frames.
 
 pub mod command;
+pub mod frame;
+pub mod receiver;
+pub mod replay;
+pub mod state;
 pub mod value;

@@ -28,6 +28,24 @@ pub fn read_whole(bytes: &[u8]) -> Option<Value<'_>> {
     reader.rest.is_empty().then_some(value)
 }
 
+/// The entries of the map that fills `bytes`, each with its value as the
+/// bytes of the whole item. None if the bytes are no such map.
+pub fn read_entries(bytes: &[u8]) -> Option<Vec<(Value<'_>, &[u8])>> {
+    let mut reader = Reader { rest: bytes };
+    let head = reader.head()?;
+    if head.major != 5 {
+        return None;
+    }
+    let mut entries = Vec::new();
+    for _ in 0..head.argument {
+        let key = reader.plain()?;
+        let start = reader.rest;
+        reader.value(LEVELS - 1)?;
+        entries.push((key, &start[..start.len() - reader.rest.len()]));
+    }
+    reader.rest.is_empty().then_some(entries)
+}
+
 struct Head {
     major: u8,
     /// The low five bits of the head's first byte.

@@ -1,0 +1,296 @@
+//! Sessions of a channel, as lines of `replay`.
+
+use crate::client::{frame, Client, Phase, Step};
+use crate::commands;
+use crate::cuts::{cut, cut_large, feed, hex, LEAST_OUTPUT};
+use crate::random::Random;
+use crate::refused;
+use crate::starts::{break_shape, heal, seated, Seated, WAYS};
+
+/// The session of this seed and index. It lends a work area before its first
+/// call, so that nothing of an earlier session stays.
+pub fn session(seed: u64, index: u64) -> Vec<String> {
+    let start = Random::new(seed ^ 0x5e55).next() ^ Random::new(!index).next();
+    let random = &mut Random::new(start);
+    let mut lines = vec![format!("# session {index} of seed {seed}")];
+    match random.below(100) {
+        0..=59 => fresh_talk(random, &mut lines),
+        60..=81 => seated_talk(random, &mut lines),
+        82..=89 => out_of_shape(random, &mut lines),
+        90..=92 => short_area(random, &mut lines),
+        93 => long_talk(random, &mut lines),
+        94 => heavy_talk(random, &mut lines),
+        95..=97 => lookups(seed, index, random, &mut lines),
+        98 => unreadable(random, &mut lines),
+        _ => noise(random, &mut lines),
+    }
+    lines.extend(["state", "tail", "worksum"].map(String::from));
+    lines
+}
+
+/// A work area that is long enough.
+fn lend(random: &mut Random, lines: &mut Vec<String>) {
+    let length = random.pick(&[20_488, 20_488, 20_488, 20_489, 21_000, 30_000]);
+    let line = match random.below(3) {
+        0 => format!("fresh {length}"),
+        _ => format!("fresh {length} {}", random.below(256)),
+    };
+    lines.push(line);
+}
+
+/// Good steps, then often trouble.
+fn fresh_talk(random: &mut Random, lines: &mut Vec<String>) {
+    lend(random, lines);
+    let client = Client::default();
+    talk(client, random, lines);
+    if random.percent(10) {
+        poke_between(random, lines);
+    }
+}
+
+/// Other bytes in the work area at any time, mostly where the receiver has
+/// left something. What the client then sends may be wrong.
+fn poke_between(random: &mut Random, lines: &mut Vec<String>) {
+    let place = match random.below(4) {
+        0 => random.below(4),
+        1 => random.below(40),
+        2 => 4104 + 2048 * random.below(8) + random.below(20),
+        _ => random.pick(&[4103, 20_487]),
+    };
+    let bytes = [random.byte()];
+    let line = random.between(2, lines.len());
+    lines.insert(line, format!("poke {place} {}", hex(&bytes)));
+}
+
+fn talk(mut client: Client, random: &mut Random, lines: &mut Vec<String>) {
+    for _ in 0..random.between(0, 30) {
+        client.act(random);
+    }
+    match random.below(10) {
+        0..=2 => {}
+        3..=7 => {
+            // 24 to 26 twice as often, on new frames and on others.
+            let number = match random.between(11, 32) as u8 {
+                number @ 30.. => number - 6,
+                number => number,
+            };
+            refused::add(&mut client, random, number);
+        }
+        _ => flip_bits(&mut client, random),
+    }
+    for _ in 0..random.below(6) {
+        client.act(random);
+    }
+    cut(client.steps, random, lines);
+}
+
+/// Flips a few bits of one frame, more often in its header.
+fn flip_bits(client: &mut Client, random: &mut Random) {
+    let (mut bytes, record) = client.next_frame(random, |_| true);
+    for _ in 0..random.between(1, 3) {
+        let end = if random.percent(60) { 8 } else { bytes.len() };
+        bytes[random.below(end)] ^= 1 << random.below(8);
+    }
+    client.steps.push(Step::Frame { bytes, record });
+}
+
+fn seated_talk(random: &mut Random, lines: &mut Vec<String>) {
+    lend(random, lines);
+    for _ in 0..random.pick(&[1, 1, 2]) {
+        let Seated {
+            start,
+            client,
+            pokes,
+        } = seated(random);
+        lines.extend(pokes);
+        lines.push(start.line());
+        talk(client, random, lines);
+    }
+}
+
+/// Calls in states to which 3 applies, mostly in one way alone.
+fn out_of_shape(random: &mut Random, lines: &mut Vec<String>) {
+    lend(random, lines);
+    for _ in 0..random.between(1, 4) {
+        let Seated {
+            mut start,
+            client,
+            pokes,
+        } = seated(random);
+        lines.extend(pokes);
+        let way = random.below(WAYS);
+        lines.extend(break_shape(&mut start, way, random));
+        if random.percent(15) {
+            let more = random.below(WAYS);
+            lines.extend(break_shape(&mut start, more, random));
+        }
+        lines.push(start.line());
+        calls(&client, random, lines);
+        if way >= WAYS - 2 && random.percent(50) {
+            lines.push(heal());
+            calls(&client, random, lines);
+        }
+    }
+    if random.percent(30) {
+        let Seated {
+            start,
+            client,
+            pokes,
+        } = seated(random);
+        lines.extend(pokes);
+        lines.push(start.line());
+        talk(client, random, lines);
+    }
+}
+
+/// A few calls that do not expect anything.
+fn calls(client: &Client, random: &mut Random, lines: &mut Vec<String>) {
+    for _ in 0..random.between(1, 4) {
+        let output = random.pick(&[0, LEAST_OUTPUT - 1, LEAST_OUTPUT, 9000]);
+        let stream = client.address(random);
+        let id = client.idle_id(random);
+        let input = frame(id, stream, 0x11, b"\xa2\x44name\x43set\x44args\xa0");
+        let end = random.below(input.len() + 1);
+        lines.push(feed(output, &input[..end]));
+        let held = client.requests.iter().map(|request| request.id);
+        for id in held.chain([0, 2, 7]) {
+            if random.percent(30) {
+                lines.push(format!("finish {id}"));
+            }
+        }
+        let looks = ["state", "tail", "worksum"];
+        lines.push(random.pick(&looks).to_string());
+    }
+}
+
+/// A work area that is too short, in states in shape and out of it.
+fn short_area(random: &mut Random, lines: &mut Vec<String>) {
+    let length = random.pick(&[0, 1, 7, 8, 4104, 20_487, 20_487]);
+    lines.push(format!("fresh {length} {}", random.below(256)));
+    let fresh = Client::default();
+    calls(&fresh, random, lines);
+    let Seated {
+        mut start, client, ..
+    } = seated(random);
+    if random.percent(50) {
+        let way = random.below(WAYS);
+        break_shape(&mut start, way, random);
+    }
+    lines.push(start.line());
+    calls(&client, random, lines);
+    let end = length.min(4);
+    lines.push(format!("poke {} {}", length - end, hex(&[7; 4][..end])));
+    calls(&client, random, lines);
+}
+
+/// Hundreds of steps, in which every id comes again and again.
+fn long_talk(random: &mut Random, lines: &mut Vec<String>) {
+    lend(random, lines);
+    let mut client = Client::default();
+    for _ in 0..random.between(150, 400) {
+        client.act(random);
+    }
+    cut(client.steps, random, lines);
+}
+
+/// Data frames of the longest kind, of which several fill an output.
+fn heavy_talk(random: &mut Random, lines: &mut Vec<String>) {
+    lend(random, lines);
+    let mut client = Client::default();
+    let place = loop {
+        client.act(random);
+        if let Some(place) = client.some(random, Some(Phase::Waiting)) {
+            break place;
+        }
+    };
+    for _ in 0..random.between(2, 25) {
+        let count = random.pick(&[4096, 4096, 4096, 4095, 2000]);
+        client.send_data(place, count, false, random);
+    }
+    if random.percent(50) {
+        refused::add(&mut client, random, 11);
+    }
+    cut_large(client.steps, random, lines);
+}
+
+/// The calls on lent command bytes.
+fn lookups(seed: u64, index: u64, random: &mut Random, lines: &mut Vec<String>) {
+    for turn in 0..random.between(12, 30) as u64 {
+        let case = commands::case(seed, index * 30 + turn);
+        let (command, key) = (hex(&case.command), hex(&case.key));
+        let line = match random.below(6) {
+            0 => format!("check {command}"),
+            1 => format!("name {command}"),
+            2 | 3 => format!("arg {command} {key}"),
+            _ => format!("int {command} {key}"),
+        };
+        lines.push(line);
+    }
+    lend(random, lines);
+}
+
+const UNREADABLE: [&str; 28] = [
+    "fresh",
+    "fresh 100001",
+    "fresh 20488 256",
+    "fresh 20488 0 0",
+    "fresh  20488",
+    "fresh x",
+    "feed 5000",
+    "feed 5000 0",
+    "feed 5000 0A",
+    "feed 5000 0g",
+    "feed 100001 -",
+    "feed 5000 00 ",
+    " feed 5000 00",
+    "feed",
+    "finish",
+    "finish 65536",
+    "finish 1 1",
+    "finish -1",
+    "poke 0 1",
+    "poke 100000 00",
+    "work 9 8",
+    "work 0 100000",
+    "state 0",
+    "State",
+    "worksums",
+    "check 0",
+    "arg 00",
+    "set 0 0 0:f:0:0 -",
+];
+
+/// Lines that cannot be read, between lines that can.
+fn unreadable(random: &mut Random, lines: &mut Vec<String>) {
+    lend(random, lines);
+    let client = Client::default();
+    for _ in 0..random.between(3, 12) {
+        lines.push(random.pick(&UNREADABLE).to_string());
+        if random.percent(30) {
+            calls(&client, random, lines);
+        }
+        if random.percent(10) {
+            lines.push(String::new());
+        }
+    }
+    if random.percent(10) {
+        // The longest line, and one that is too long.
+        lines.push(format!("check {}", "0".repeat(299_994)));
+        lines.push(format!("check {}", "0".repeat(299_996)));
+    }
+}
+
+/// Bytes without any sense.
+fn noise(random: &mut Random, lines: &mut Vec<String>) {
+    lend(random, lines);
+    for _ in 0..random.between(1, 5) {
+        let count = random.pick(&[1, 7, 8, 9, 60]);
+        let input: Vec<u8> = match random.below(2) {
+            0 => random.bytes(count),
+            _ => (0..count)
+                .map(|_| random.pick(&[0, 0, 1, 1, 0x11, 0x92]))
+                .collect(),
+        };
+        lines.push(feed(random.pick(&[LEAST_OUTPUT, 9000]), &input));
+    }
+}

@@ -1,0 +1,360 @@
+//! The line interface: each line asks one thing, and its answer is one line.
+
+use crate::command;
+use crate::receiver::Receiver;
+use crate::state::{Phase, Slot, State, SLOTS, WORK};
+use std::collections::BTreeSet;
+
+/// A longer line is bad.
+const LINE: usize = 300_000;
+/// The most bytes of a work area or of an output.
+const LENT: u64 = 100_000;
+/// What an output holds before the call.
+const UNWRITTEN: u8 = 0xa5;
+
+pub struct Replay {
+    receiver: Receiver,
+    /// The last feed's output, and how much of it was written.
+    output: Vec<u8>,
+    written: usize,
+}
+
+impl Default for Replay {
+    fn default() -> Replay {
+        Replay {
+            receiver: Receiver::start(State::fresh(), area(WORK, 0)),
+            output: Vec::new(),
+            written: 0,
+        }
+    }
+}
+
+impl Replay {
+    pub fn receiver(&self) -> &Receiver {
+        &self.receiver
+    }
+
+    /// The answer to a line, which stands here without its line end. None
+    /// for an empty line and for a comment.
+    pub fn answer(&mut self, line: &[u8]) -> Option<String> {
+        if line.is_empty() || line[0] == b'#' {
+            return None;
+        }
+        let short = Some(line).filter(|line| line.len() <= LINE);
+        let text = short.and_then(|line| std::str::from_utf8(line).ok());
+        let answer = text.and_then(|text| self.read(text));
+        Some(answer.unwrap_or("bad".to_string()))
+    }
+
+    /// None if the line cannot be read; nothing has changed then. An empty
+    /// word, where two spaces stand together or one at an end, is read as
+    /// nothing.
+    fn read(&mut self, line: &str) -> Option<String> {
+        let words: Vec<&str> = line.split(' ').collect();
+        match words[..] {
+            ["fresh", length] => self.fresh(length, "0"),
+            ["fresh", length, first] => self.fresh(length, first),
+            ["set", ref state @ ..] => self.set(state),
+            ["poke", place, bytes] => self.poke(place, bytes),
+            ["feed", length, bytes] => self.feed(length, bytes),
+            ["finish", id] => self.finish(id),
+            ["state"] => Some(format!("state {}", state_text(&self.receiver.state()))),
+            ["tail"] => Some(self.tail()),
+            ["work", from, to] => self.work(from, to),
+            ["worksum"] => Some(format!("worksum {}", adler(self.receiver.work()))),
+            ["check", bytes] => check(bytes),
+            ["name", bytes] => name(bytes),
+            ["arg", bytes, key] => argument(bytes, key),
+            ["int", bytes, key] => integer(bytes, key),
+            _ => None,
+        }
+    }
+
+    fn fresh(&mut self, length: &str, first: &str) -> Option<String> {
+        let length = number(length, LENT)? as usize;
+        let first = number(first, 255)? as usize;
+        self.receiver = Receiver::start(State::fresh(), area(length, first));
+        Some("fresh".to_string())
+    }
+
+    fn set(&mut self, words: &[&str]) -> Option<String> {
+        self.receiver.set(state(words)?);
+        Some("set".to_string())
+    }
+
+    fn poke(&mut self, place: &str, bytes: &str) -> Option<String> {
+        let place = number(place, LENT)? as usize;
+        let bytes = from_hex(bytes)?;
+        if place + bytes.len() > self.receiver.work().len() {
+            return None;
+        }
+        self.receiver.poke(place, &bytes);
+        Some("poked".to_string())
+    }
+
+    fn feed(&mut self, length: &str, bytes: &str) -> Option<String> {
+        let length = number(length, LENT)? as usize;
+        let input = from_hex(bytes)?;
+        self.output.clear();
+        self.output.resize(length, UNWRITTEN);
+        let fed = self.receiver.feed(&input, &mut self.output);
+        self.written = fed.written;
+        let records = to_hex(&self.output[..fed.written]);
+        let (number, taken, written) = (fed.number, fed.taken, fed.written);
+        Some(format!("fed {number} {taken} {written} {records}"))
+    }
+
+    fn finish(&mut self, id: &str) -> Option<String> {
+        let id = number(id, u16::MAX.into())? as u16;
+        Some(format!("finished {}", self.receiver.finish(id)))
+    }
+
+    fn tail(&self) -> String {
+        let mut tail = self.output[self.written..].iter();
+        let kept = tail.all(|byte| *byte == UNWRITTEN);
+        format!("tail {}", if kept { "kept" } else { "changed" })
+    }
+
+    fn work(&self, from: &str, to: &str) -> Option<String> {
+        let from = number(from, LENT)? as usize;
+        let to = number(to, LENT)? as usize;
+        let bytes = self.receiver.work().get(from..to)?;
+        Some(format!("work {}", to_hex(bytes)))
+    }
+}
+
+fn area(length: usize, first: usize) -> Vec<u8> {
+    (0..length).map(|place| (7 * place + first) as u8).collect()
+}
+
+fn check(bytes: &str) -> Option<String> {
+    let bytes = from_hex(bytes)?;
+    Some(format!("checked {}", command::check(&bytes)))
+}
+
+fn name(bytes: &str) -> Option<String> {
+    let bytes = from_hex(bytes)?;
+    let content = to_hex(command::name(&bytes));
+    Some(format!("named {} {content}", command::check(&bytes)))
+}
+
+fn argument(bytes: &str, key: &str) -> Option<String> {
+    let (bytes, key) = (from_hex(bytes)?, from_hex(key)?);
+    let number = command::argument_number(&bytes, &key);
+    let item = to_hex(command::argument(&bytes, &key));
+    Some(format!("argument {number} {item}"))
+}
+
+fn integer(bytes: &str, key: &str) -> Option<String> {
+    let (bytes, key) = (from_hex(bytes)?, from_hex(key)?);
+    let number = command::integer_number(&bytes, &key);
+    let value = command::integer(&bytes, &key);
+    Some(format!("integer {number} {value}"))
+}
+
+/// Digits alone, and at most `most`.
+fn number(word: &str, most: u64) -> Option<u64> {
+    if !word.bytes().all(|byte| byte.is_ascii_digit()) {
+        return None;
+    }
+    word.parse().ok().filter(|number| *number <= most)
+}
+
+fn digit(byte: u8) -> Option<u8> {
+    match byte {
+        b'0'..=b'9' => Some(byte - b'0'),
+        b'a'..=b'f' => Some(byte - b'a' + 10),
+        _ => None,
+    }
+}
+
+pub fn from_hex(word: &str) -> Option<Vec<u8>> {
+    if word == "-" {
+        return Some(Vec::new());
+    }
+    if word.is_empty() || word.len() % 2 != 0 {
+        return None;
+    }
+    let pairs = word.as_bytes().chunks(2);
+    pairs
+        .map(|pair| Some(digit(pair[0])? << 4 | digit(pair[1])?))
+        .collect()
+}
+
+pub fn to_hex(bytes: &[u8]) -> String {
+    if bytes.is_empty() {
+        return "-".to_string();
+    }
+    let digit = |half: u8| char::from(b"0123456789abcdef"[usize::from(half)]);
+    let pairs = bytes.iter().map(|byte| [byte >> 4, byte & 0x0f]);
+    pairs.flatten().map(digit).collect()
+}
+
+fn state(words: &[&str]) -> Option<State> {
+    let [dead, pending, slots @ .., open] = words else {
+        return None;
+    };
+    let slots: Option<Vec<Slot>> = slots.iter().map(|word| slot(word)).collect();
+    Some(State {
+        dead: number(dead, u8::MAX.into())? as u8,
+        pending: number(pending, u64::MAX)?,
+        slots: <[Slot; SLOTS]>::try_from(slots?).ok()?,
+        open: streams(open)?,
+    })
+}
+
+fn slot(word: &str) -> Option<Slot> {
+    let parts: Vec<&str> = word.split(':').collect();
+    let [id, phase, data, length] = parts[..] else {
+        return None;
+    };
+    Some(Slot {
+        id: number(id, u16::MAX.into())? as u16,
+        phase: match phase {
+            "f" => Phase::Free,
+            "c" => Phase::Collecting,
+            "w" => Phase::Waiting,
+            "r" => Phase::Running,
+            _ => return None,
+        },
+        data: match data {
+            "0" => false,
+            "1" => true,
+            _ => return None,
+        },
+        length: number(length, u64::MAX)?,
+    })
+}
+
+/// Odd ids, each above the one before.
+fn streams(word: &str) -> Option<BTreeSet<u8>> {
+    let mut open = BTreeSet::new();
+    if word == "-" {
+        return Some(open);
+    }
+    for id in word.split(',') {
+        let id = number(id, 255)? as u8;
+        if id % 2 == 0 || open.last().is_some_and(|last| *last >= id) {
+            return None;
+        }
+        open.insert(id);
+    }
+    Some(open)
+}
+
+/// A state as the lines have it.
+pub fn state_text(state: &State) -> String {
+    let mut text = format!("{} {}", state.dead, state.pending);
+    for slot in &state.slots {
+        let phase = match slot.phase {
+            Phase::Free => 'f',
+            Phase::Collecting => 'c',
+            Phase::Waiting => 'w',
+            Phase::Running => 'r',
+        };
+        let (id, data, length) = (slot.id, u8::from(slot.data), slot.length);
+        text += &format!(" {id}:{phase}:{data}:{length}");
+    }
+    let open: Vec<String> = state.open.iter().map(u8::to_string).collect();
+    if open.is_empty() {
+        text + " -"
+    } else {
+        text + " " + &open.join(",")
+    }
+}
+
+/// Adler-32. The sums are cut to size after each run of bytes, in which
+/// they stay far below 2^64.
+fn adler(bytes: &[u8]) -> u64 {
+    let (mut low, mut high) = (1u64, 0u64);
+    for run in bytes.chunks(4096) {
+        for byte in run {
+            low += u64::from(*byte);
+            high += low;
+        }
+        low %= 65521;
+        high %= 65521;
+    }
+    high << 16 | low
+}
+
+#[cfg(test)]
+mod tests {
+    use super::*;
+
+    #[test]
+    fn adler_of_a_word() {
+        assert_eq!(adler(b"Wikipedia"), 0x11e6_0398);
+        assert_eq!(adler(b""), 1);
+    }
+
+    #[test]
+    fn unanswered() {
+        let mut replay = Replay::default();
+        assert_eq!(replay.answer(b""), None);
+        assert_eq!(replay.answer(b"# feed 0 -"), None);
+        assert_eq!(replay.answer(b"#\xff"), None);
+    }
+
+    #[test]
+    fn bad_lines() {
+        let mut replay = Replay::default();
+        let before = replay.answer(b"state");
+        let lines = "x|state |state  | state|fresh|fresh 100001|fresh -|fresh 5 256|fresh 5 0 0|\
+            fresh +5|fresh 5 |feed 5|feed 5 0|feed 5 0A|feed 5 0g|feed -1 -|feed 100001 -|feed  5 -|\
+            finish 65536|finish|finish -|finish 1 |poke 20488 00|poke 20489 -|poke 0 0|work 2 1|\
+            work 0 20489|worksum 0|tail 0|check|check 0|name|arg -|int 00|set|set 0 0 -|\u{e9}|state\r";
+        for line in lines.split('|') {
+            let answer = replay.answer(line.as_bytes());
+            assert_eq!(answer.as_deref(), Some("bad"), "{line}");
+        }
+        assert_eq!(replay.answer(b"\xff").as_deref(), Some("bad"));
+        assert_eq!(replay.answer(b"state"), before);
+    }
+
+    #[test]
+    fn longest_line() {
+        let mut replay = Replay::default();
+        let line = |digits: usize| format!("check {}", "0".repeat(digits));
+        let answer = replay.answer(line(299_994).as_bytes());
+        assert_eq!(answer.as_deref(), Some("checked 24"));
+        let answer = replay.answer(line(299_996).as_bytes());
+        assert_eq!(answer.as_deref(), Some("bad"));
+    }
+
+    /// Whatever the numbers, a state is answered as it was set.
+    #[test]
+    fn states() {
+        let mut replay = Replay::default();
+        let slots = "9:c:1:7 0:f:0:0 3:w:1:0 5:r:1:0 0:f:0:0 7:r:0:0 0:f:0:0 65535:c:0:2048";
+        let odd = "0:f:1:9 2:c:1:18446744073709551615 2:w:0:0 5:r:1:1 5:r:1:0 8:f:0:0 1:f:0:0 65535:c:0:1";
+        for state in [
+            format!("0 0 {slots} -"),
+            format!("29 4103 {slots} 1,3,255"),
+            format!("255 18446744073709551615 {odd} 129"),
+        ] {
+            let set = replay.answer(format!("set {state}").as_bytes());
+            assert_eq!(set.as_deref(), Some("set"));
+            let told = replay.answer(b"state");
+            assert_eq!(told, Some(format!("state {state}")));
+        }
+        let bad = [
+            format!("set 256 0 {slots} -"),
+            format!("set 0 18446744073709551616 {slots} -"),
+            format!("set 0 0 {slots} 0:f:0:0 -"),
+            format!("set 0 0 {slots} 2"),
+            format!("set 0 0 {slots} 3,1"),
+            format!("set 0 0 {slots} 1,1"),
+            format!("set 0 0 {slots} 257"),
+            format!("set 0 0 {slots} 1,"),
+            format!("set 0 0 {slots}"),
+            format!("set 0 0 {} -", slots.replace("9:c", "65537:c")),
+            format!("set 0 0 {} -", slots.replace("c:1:7", "d:1:7")),
+            format!("set 0 0 {} -", slots.replace("c:1:7", "c:2:7")),
+        ];
+        for line in bad {
+            let answer = replay.answer(line.as_bytes());
+            assert_eq!(answer.as_deref(), Some("bad"), "{line}");
+        }
+    }
+}

@@ -1,0 +1,265 @@
+//! What a channel's state holds, in shape or not, and rule 3.
+
+use crate::frame::{claimed, COMMAND_BYTES, HEADER, PAYLOAD};
+use std::collections::BTreeSet;
+
+pub const SLOTS: usize = 8;
+/// The places of the work area that the frame under way has.
+pub const FRAME_PLACES: usize = HEADER + PAYLOAD;
+/// A shorter work area is refused with 2.
+pub const WORK: usize = FRAME_PLACES + SLOTS * COMMAND_BYTES;
+
+#[derive(Clone, Copy, Debug, PartialEq, Eq)]
+pub enum Phase {
+    Free,
+    Collecting,
+    Waiting,
+    Running,
+}
+
+#[derive(Clone, Copy, Debug, PartialEq, Eq)]
+pub struct Slot {
+    pub id: u16,
+    pub phase: Phase,
+    pub data: bool,
+    pub length: u64,
+}
+
+impl Slot {
+    pub const FREE: Slot = Slot {
+        id: 0,
+        phase: Phase::Free,
+        data: false,
+        length: 0,
+    };
+}
+
+#[derive(Clone, Debug, PartialEq, Eq)]
+pub struct State {
+    pub dead: u8,
+    pub pending: u64,
+    pub slots: [Slot; SLOTS],
+    /// The open streams; their ids are odd.
+    pub open: BTreeSet<u8>,
+}
+
+impl State {
+    pub fn fresh() -> State {
+        State {
+            dead: 0,
+            pending: 0,
+            slots: [Slot::FREE; SLOTS],
+            open: BTreeSet::new(),
+        }
+    }
+}
+
+/// A way in which a state is out of shape.
+#[derive(Clone, Copy, Debug, PartialEq, Eq)]
+pub enum Way {
+    PendingAbove,
+    LengthAbove,
+    UsedEven,
+    UsedDouble,
+    FreeWithId,
+    FreeWithData,
+    FreeWithLength,
+    WaitingWithLength,
+    RunningWithLength,
+    WaitingWithoutData,
+    DeadBelow11,
+    DeadAbove29,
+    HeldAbove,
+    PendingPastHeld,
+}
+
+impl Way {
+    pub const ALL: [Way; 14] = [
+        Way::PendingAbove,
+        Way::LengthAbove,
+        Way::UsedEven,
+        Way::UsedDouble,
+        Way::FreeWithId,
+        Way::FreeWithData,
+        Way::FreeWithLength,
+        Way::WaitingWithLength,
+        Way::RunningWithLength,
+        Way::WaitingWithoutData,
+        Way::DeadBelow11,
+        Way::DeadAbove29,
+        Way::HeldAbove,
+        Way::PendingPastHeld,
+    ];
+
+    pub fn name(self) -> &'static str {
+        match self {
+            Way::PendingAbove => "pending above 4,103",
+            Way::LengthAbove => "slot length above 2,048",
+            Way::UsedEven => "used id even",
+            Way::UsedDouble => "used id double",
+            Way::FreeWithId => "free slot with an id",
+            Way::FreeWithData => "free slot with a data bit",
+            Way::FreeWithLength => "free slot with a length",
+            Way::WaitingWithLength => "waiting slot with a length",
+            Way::RunningWithLength => "running slot with a length",
+            Way::WaitingWithoutData => "waiting slot without its data bit",
+            Way::DeadBelow11 => "dead number 1 to 10",
+            Way::DeadAbove29 => "dead number above 29",
+            Way::HeldAbove => "held length above 4,096",
+            Way::PendingPastHeld => "pending not below 8 plus the held length",
+        }
+    }
+}
+
+/// The ways that the plain numbers show, without the work area. Empty if
+/// there is none.
+pub fn plain_ways(state: &State) -> Vec<Way> {
+    let used = |slot: &&Slot| slot.phase != Phase::Free;
+    let ids: BTreeSet<u16> = state
+        .slots
+        .iter()
+        .filter(used)
+        .map(|slot| slot.id)
+        .collect();
+    let mut ways = broken(&[
+        (state.pending >= FRAME_PLACES as u64, Way::PendingAbove),
+        ((1..=10).contains(&state.dead), Way::DeadBelow11),
+        (state.dead > 29, Way::DeadAbove29),
+        (
+            ids.len() < state.slots.iter().filter(used).count(),
+            Way::UsedDouble,
+        ),
+    ]);
+    for slot in &state.slots {
+        ways.extend(slot_ways(slot));
+    }
+    ways
+}
+
+fn slot_ways(slot: &Slot) -> Vec<Way> {
+    let free = slot.phase == Phase::Free;
+    let waiting = slot.phase == Phase::Waiting;
+    let running = slot.phase == Phase::Running;
+    let long = slot.length != 0;
+    broken(&[
+        (slot.length > COMMAND_BYTES as u64, Way::LengthAbove),
+        (!free && slot.id % 2 == 0, Way::UsedEven),
+        (free && slot.id != 0, Way::FreeWithId),
+        (free && slot.data, Way::FreeWithData),
+        (free && long, Way::FreeWithLength),
+        (waiting && long, Way::WaitingWithLength),
+        (waiting && !slot.data, Way::WaitingWithoutData),
+        (running && long, Way::RunningWithLength),
+    ])
+}
+
+fn broken(tests: &[(bool, Way)]) -> Vec<Way> {
+    let broken = tests.iter().filter(|(broken, _)| *broken);
+    broken.map(|(_, way)| *way).collect()
+}
+
+/// The ways that need the header held in the work area, which is long
+/// enough. With fewer than 8 bytes pending it is not there yet.
+pub fn held_ways(state: &State, work: &[u8]) -> Vec<Way> {
+    if state.pending < HEADER as u64 {
+        return Vec::new();
+    }
+    let held = claimed(work);
+    if held > PAYLOAD {
+        vec![Way::HeldAbove]
+    } else if state.pending >= (HEADER + held) as u64 {
+        vec![Way::PendingPastHeld]
+    } else {
+        Vec::new()
+    }
+}
+
+#[cfg(test)]
+mod tests {
+    use super::*;
+
+    fn with(id: u16, phase: Phase, data: bool, length: u64) -> State {
+        let mut state = State::fresh();
+        state.slots[2] = Slot {
+            id,
+            phase,
+            data,
+            length,
+        };
+        state.slots[5] = Slot {
+            id: 9,
+            phase: Phase::Running,
+            ..Slot::FREE
+        };
+        state
+    }
+
+    #[test]
+    fn slots() {
+        use Phase::{Collecting, Free, Running, Waiting};
+        let table: [(State, &[Way]); 18] = [
+            (with(0, Free, false, 0), &[]),
+            (with(1, Free, false, 0), &[Way::FreeWithId]),
+            (with(9, Free, false, 0), &[Way::FreeWithId]),
+            (with(0, Free, true, 0), &[Way::FreeWithData]),
+            (with(0, Free, false, 1), &[Way::FreeWithLength]),
+            (with(65535, Collecting, true, 2048), &[]),
+            (with(1, Collecting, false, 0), &[]),
+            (with(1, Collecting, false, 2049), &[Way::LengthAbove]),
+            (with(0, Collecting, false, 0), &[Way::UsedEven]),
+            (with(256, Running, false, 0), &[Way::UsedEven]),
+            (with(9, Collecting, false, 0), &[Way::UsedDouble]),
+            (with(1, Waiting, true, 0), &[]),
+            (with(1, Waiting, false, 0), &[Way::WaitingWithoutData]),
+            (with(1, Waiting, true, 1), &[Way::WaitingWithLength]),
+            (with(1, Running, true, 0), &[]),
+            (with(1, Running, false, 0), &[]),
+            (with(1, Running, true, 1), &[Way::RunningWithLength]),
+            (with(9, Waiting, true, 0), &[Way::UsedDouble]),
+        ];
+        for (state, ways) in table {
+            assert_eq!(plain_ways(&state), ways, "{state:?}");
+        }
+    }
+
+    #[test]
+    fn dead_numbers_and_pending() {
+        for dead in 0..=255 {
+            let state = State {
+                dead,
+                ..State::fresh()
+            };
+            let sound = dead == 0 || (11..=29).contains(&dead);
+            assert_eq!(plain_ways(&state).is_empty(), sound, "{dead}");
+        }
+        for (pending, sound) in [(4103, true), (4104, false), (u64::MAX, false)] {
+            let state = State {
+                pending,
+                ..State::fresh()
+            };
+            assert_eq!(plain_ways(&state).is_empty(), sound, "{pending}");
+        }
+    }
+
+    #[test]
+    fn held_lengths() {
+        let table: [(u64, [u8; 3], &[Way]); 9] = [
+            (7, [0xff; 3], &[]),
+            (7, [0; 3], &[]),
+            (8, [0; 3], &[Way::PendingPastHeld]),
+            (8, [1, 0, 0], &[]),
+            (9, [1, 0, 0], &[Way::PendingPastHeld]),
+            (4103, [0, 0x10, 0], &[]),
+            (4103, [0xff, 0x0f, 0], &[Way::PendingPastHeld]),
+            (8, [1, 0x10, 0], &[Way::HeldAbove]),
+            (8, [0, 0, 1], &[Way::HeldAbove]),
+        ];
+        for (pending, length, ways) in table {
+            let state = State {
+                pending,
+                ..State::fresh()
+            };
+            assert_eq!(held_ways(&state, &length), ways, "{pending} {length:?}");
+        }
+    }
+}

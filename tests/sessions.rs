@@ -1,0 +1,77 @@
+//! Sessions of the channel, for the second implementation and for others.
+//!
+//!     sessions make SEED COUNT    prints the lines of COUNT sessions
+//!     sessions check SEED COUNT   runs them in the second receiver and holds each against the uncut reading
+//!     sessions traces             the papers' traces, through the lines
+//!
+//! `check` also counts what the sessions meet, and fails if one of the
+//! things it counts comes up less than 20 times.
+
+#[path = "sessions/counts.rs"]
+mod counts;
+#[path = "sessions/coverage.rs"]
+mod coverage;
+#[path = "sessions/traces.rs"]
+mod traces;
+#[path = "sessions/watch.rs"]
+mod watch;
+
+use coverage::Coverage;
+use std::io::{stdout, BufWriter, Result, Write};
+use std::process::exit;
+use watch::Watch;
+
+/// How often everything that is counted must come up.
+const LEAST: u64 = 20;
+
+fn make(seed: u64, count: u64) -> Result<()> {
+    let mut output = BufWriter::new(stdout().lock());
+    for index in 0..count {
+        for line in generate::session(seed, index) {
+            writeln!(output, "{line}")?;
+        }
+    }
+    output.flush()
+}
+
+fn check(seed: u64, count: u64) {
+    let mut coverage = Coverage::new();
+    let mut watch = Watch::default();
+    let mut lines = 0;
+    for index in 0..count {
+        for (place, line) in (1..).zip(generate::session(seed, index)) {
+            lines += 1;
+            if let Err(reason) = watch.line(&line, &mut coverage) {
+                let asked: String = line.chars().take(60).collect();
+                fail(&format!(
+                    "seed {seed}, session {index}, line {place} ({asked}): {reason}"
+                ));
+            }
+        }
+    }
+    coverage.print();
+    if let Some((name, times)) = coverage.rarest().filter(|(_, times)| *times < LEAST) {
+        fail(&format!(
+            "\"{name}\" came up {times} times in {count} sessions, less than {LEAST}"
+        ));
+    }
+    println!("sessions: {count} sessions, {lines} lines, each session as the uncut reading");
+}
+
+fn fail(reason: &str) -> ! {
+    println!("sessions: {reason}");
+    exit(1)
+}
+
+fn main() -> Result<()> {
+    let arguments: Vec<String> = std::env::args().skip(1).collect();
+    let words: Vec<&str> = arguments.iter().map(String::as_str).collect();
+    let number = |word: &str| word.parse().expect("a number");
+    match words[..] {
+        ["make", seed, count] => make(number(seed), number(count))?,
+        ["check", seed, count] => check(number(seed), number(count)),
+        ["traces"] => traces::run(),
+        _ => fail("make SEED COUNT, check SEED COUNT or traces"),
+    }
+    Ok(())
+}

@@ -1,0 +1,157 @@
+//! The papers' traces, as lines and their answers.
+
+use second::replay::Replay;
+
+/// T1's command, and a header for it without its last byte.
+const COMMAND: &str = "a2446e616d65437365744461726773a0";
+const HEADER: &str = "10000001000101";
+const FREE: &str = "0:f:0:0";
+
+struct Trace {
+    name: &'static str,
+    replay: Replay,
+}
+
+impl Trace {
+    fn new(name: &'static str) -> Trace {
+        let replay = Replay::default();
+        Trace { name, replay }
+    }
+
+    fn ask(&mut self, line: &str, expected: &str) {
+        let answer = self.replay.answer(line.as_bytes());
+        let name = self.name;
+        assert_eq!(answer.as_deref(), Some(expected), "{name}: {line}");
+    }
+
+    /// Feeds bytes that are all taken.
+    fn feed(&mut self, hex: &str, number: u8, records: &str) {
+        let (taken, written) = (hex.len() / 2, records.len() / 2);
+        let shown = if records.is_empty() { "-" } else { records };
+        let answer = format!("fed {number} {taken} {written} {shown}");
+        self.ask(&format!("feed 5000 {hex}"), &answer);
+        self.ask("tail", "tail kept");
+    }
+}
+
+pub fn run() {
+    single_frames();
+    lengths();
+    ninth_request();
+    longest_command();
+    finish_of_collecting();
+    command_bytes();
+    println!("sessions: T1 to T12 as in the papers");
+}
+
+/// T1, T2, T3, T5 and T10.
+fn single_frames() {
+    let mut t1 = Trace::new("T1");
+    t1.feed(
+        &format!("{HEADER}11{COMMAND}"),
+        0,
+        &format!("13000100010000{COMMAND}"),
+    );
+    let rest = [FREE; 7].join(" ");
+    t1.ask("state", &format!("state 0 0 1:r:0:0 {rest} 1"));
+    t1.ask("work 4104 4120", &format!("work {COMMAND}"));
+
+    let mut t2 = Trace::new("T2");
+    t2.feed("0900000100010192486964656e74697479", 0, "");
+    let free = [FREE; 8].join(" ");
+    t2.ask("state", &format!("state 0 0 {free} 1"));
+
+    let mut t3 = Trace::new("T3");
+    t3.ask(&format!("set 0 0 1:w:1:0 {rest} 1"), "set");
+    t3.feed("02000001000100226869", 0, "050002000100016869");
+    t3.ask("state", &format!("state 0 0 1:r:1:0 {rest} 1"));
+
+    let mut t5 = Trace::new("T5");
+    t5.feed(&format!("{HEADER}13{COMMAND}"), 18, "");
+    t5.ask("state", &format!("state 18 0 {free} -"));
+
+    let mut t10 = Trace::new("T10");
+    t10.feed("0000000100010111", 24, "");
+    t10.ask("state", &format!("state 24 0 {free} -"));
+}
+
+/// T4. The refused call ends on the eighth byte, whatever follows.
+fn lengths() {
+    let free = [FREE; 8].join(" ");
+    let mut allowed = Trace::new("T4");
+    allowed.feed("0010000100010111", 0, "");
+    allowed.ask("state", &format!("state 0 8 {free} -"));
+    let mut refused = Trace::new("T4");
+    refused.ask("feed 5000 0110000100010111a2", "fed 11 8 0 -");
+    refused.ask("state", &format!("state 11 0 {free} -"));
+}
+
+/// T6: T1's request, then seven that are collecting, then a ninth.
+fn ninth_request() {
+    for finished in [false, true] {
+        let mut t6 = Trace::new("T6");
+        t6.feed(
+            &format!("{HEADER}11{COMMAND}"),
+            0,
+            &format!("13000100010000{COMMAND}"),
+        );
+        for id in ["03", "05", "07", "09", "0b", "0d", "0f"] {
+            t6.feed(&format!("000000{id}00010015"), 0, "");
+        }
+        if finished {
+            t6.ask("finish 1", "finished 0");
+        }
+        let number = if finished { 0 } else { 20 };
+        t6.feed("0000001100010015", number, "");
+    }
+}
+
+/// T7, in one frame and in two. The argument is a byte string that fills
+/// the command up to its length.
+fn longest_command() {
+    let command = |length: usize| {
+        let filler = length - 21;
+        let bytes = "5a".repeat(filler);
+        format!("a2446e616d65437365744461726773a1416b59{filler:04x}{bytes}")
+    };
+    let record = format!("03080100010000{}", command(2048));
+    let mut one = Trace::new("T7");
+    one.feed(&format!("0008000100010111{}", command(2048)), 0, &record);
+    let mut one = Trace::new("T7");
+    one.feed(&format!("0108000100010111{}", command(2049)), 23, "");
+
+    let (long, over) = (command(2048), command(2049));
+    let mut two = Trace::new("T7");
+    two.feed(&format!("0004000100010115{}", &long[..2048]), 0, "");
+    two.feed(&format!("0004000100010012{}", &long[2048..]), 0, &record);
+    let mut two = Trace::new("T7");
+    two.feed(&format!("0004000100010115{}", &over[..2048]), 0, "");
+    two.feed(&format!("0104000100010012{}", &over[2048..]), 23, "");
+}
+
+/// T12.
+fn finish_of_collecting() {
+    let mut t12 = Trace::new("T12");
+    t12.feed("0000000100010115", 0, "");
+    t12.ask("finish 1", "finished 4");
+    let rest = [FREE; 7].join(" ");
+    t12.ask("state", &format!("state 0 0 1:c:0:0 {rest} 1"));
+}
+
+/// T8 to T11, each as the argument `k`.
+fn command_bytes() {
+    let with = |item: &str| format!("a2446e616d65437365744461726773a1416b{item}");
+    let table = [
+        ("T8", "3b7fffffffffffffff", "0 -9223372036854775808"),
+        ("T8", "3b8000000000000000", "8 0"),
+        ("T9", "20", "0 -1"),
+        ("T11", "818181818180", "7 0"),
+        ("T11", "81818181818180", "24 0"),
+    ];
+    for (name, item, answer) in table {
+        let mut trace = Trace::new(name);
+        let line = format!("int {} 6b", with(item));
+        trace.ask(&line, &format!("integer {answer}"));
+    }
+    Trace::new("T10").ask("check -", "checked 24");
+}
