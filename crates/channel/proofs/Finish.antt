@@ -1,11 +1,11 @@
 -- Finish on the state alone, case by case.
 -- Assumes nothing.
-use Prim.Native.Nat.{ℕ, zero, suc, _≤_}
+use Prim.Native.Nat.{ℕ, zero, suc}
 use mathlib.Core.Path.{_≡_, refl, _∙_}
 use mathlib.Core.Bool.{Bool, true, false}
 use native.Mathlib.Omega.{arith}
 use lib.Dec.{eqb}
-use lib.ListN.{length, getD, set, List·getD-eq-default}
+use lib.ListN.{getD, set}
 use borrow.Author.Tests.{eq-eqb, ne-eqb}
 use Rattle.requests.specs.declared.Phase.the-variants.{Running}
 use Rattle.requests.specs.Phases.{code, isPhase, freeSlot}
@@ -50,7 +50,3 @@ module _ (s : Channel) (id : ℕ) where
 
     pub stays : s .dead ≡ 0 → (code (getD (s .slots) i freeSlot .phase) ≡ 3 → ⊥) → finishState s id ≡ record { next = s; number = 4 }
     stays d h = finish-no d (running ∙ ne-eqb _ 3 h)
-
-    pub absent : s .dead ≡ 0 → length (s .slots) ≤ i → finishState s id ≡ record { next = s; number = 4 }
-    unfolding code
-    absent d h = finish-no d (running ∙ rw (List·getD-eq-default (s .slots) freeSlot h))

@@ -4,7 +4,7 @@ use Prim.Native.Nat.{ℕ, zero, suc, _+_, _-_, _≤_}
 use mathlib.Core.Path.{_≡_, refl, sym, ap, _∙_, subst}
 use mathlib.Core.Bool.{Bool, true, false, _&&_}
 use mathlib.Core.List.{List, [], _∷_, _++_, map, append-assoc}
-use native.Mathlib.Nat.{zero-add, add-suc, suc-add}
+use native.Mathlib.Nat.{zero-add}
 use native.Mathlib.Omega.{arith}
 use lib.ListN.{length, take, drop, length-append, length-drop}
 use lib.Seq.{take-append-seam}
@@ -251,10 +251,6 @@ behind n recs g = record { number = g .number; taken = n + g .taken; next = g .n
 
 pub behind-none : {R : Type 0} (g : Reading R) → g ≡ behind 0 [] g
 behind-none g = rw zero-add
-
-pub behind-after : {R : Type 0} (n : ℕ) (recs new : List ℕ) (g : Reading R) → behind n recs (after new g) ≡ behind (suc n) (recs ++ new) g
-unfolding after
-behind-after n recs new g = rw (add-suc, suc-add, append-assoc)
 
 -- a feed on a receiver to which neither 2 nor 3 applies
 pub feed-open : (m : Machine) (k : Keeps m) (r : m .Recv) (input out : List ℕ) → k .Ok r
