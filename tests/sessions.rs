@@ -1,8 +1,9 @@
 //! Sessions of the channel, for the second implementation and for others.
 //!
-//!     sessions make SEED COUNT    prints the lines of COUNT sessions
-//!     sessions check SEED COUNT   runs them in the second receiver and holds each against the uncut reading
-//!     sessions traces             the papers' traces, through the lines
+//!     sessions make SEED COUNT      prints the lines of COUNT sessions
+//!     sessions check SEED COUNT     runs them in the second receiver and holds each against the uncut reading
+//!     sessions traces               the papers' traces, through the lines
+//!     sessions commands SEED COUNT  prints the lines of the calls on COUNT commands
 //!
 //! `check` also counts what the sessions meet, and fails if one of the
 //! things it counts comes up less than 20 times.
@@ -17,6 +18,7 @@ mod traces;
 mod watch;
 
 use coverage::Coverage;
+use second::replay::to_hex;
 use std::io::{stdout, BufWriter, Result, Write};
 use std::process::exit;
 use watch::Watch;
@@ -30,6 +32,17 @@ fn make(seed: u64, count: u64) -> Result<()> {
         for line in generate::session(seed, index) {
             writeln!(output, "{line}")?;
         }
+    }
+    output.flush()
+}
+
+fn commands(seed: u64, count: u64) -> Result<()> {
+    let mut output = BufWriter::new(stdout().lock());
+    for index in 0..count {
+        let case = generate::case(seed, index);
+        let (command, key) = (to_hex(&case.command), to_hex(&case.key));
+        writeln!(output, "check {command}\nname {command}")?;
+        writeln!(output, "arg {command} {key}\nint {command} {key}")?;
     }
     output.flush()
 }
@@ -71,7 +84,8 @@ fn main() -> Result<()> {
         ["make", seed, count] => make(number(seed), number(count))?,
         ["check", seed, count] => check(number(seed), number(count)),
         ["traces"] => traces::run(),
-        _ => fail("make SEED COUNT, check SEED COUNT or traces"),
+        ["commands", seed, count] => commands(number(seed), number(count))?,
+        _ => fail("make SEED COUNT, check SEED COUNT, traces or commands SEED COUNT"),
     }
     Ok(())
 }

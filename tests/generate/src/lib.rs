@@ -1,19 +1,25 @@
 //! Makes commands to compare two readers on: good ones, ones with a known
-//! fault, and damaged ones; and sessions of a channel, as lines of `replay`.
-//! The same seed and index give the same ones on every machine.
+//! fault, and damaged ones; sessions of a channel, as lines of `replay`, and
+//! the same lines damaged; and captures of the line. The same seed and index
+//! give the same ones on every machine.
 
+mod captures;
 mod client;
 mod commands;
 mod cuts;
 mod faults;
 pub mod fixed;
+mod garbled;
 mod item;
 mod random;
 mod refused;
 mod sessions;
 mod starts;
 
+pub use captures::capture;
 pub use commands::case;
+pub use garbled::garbled;
+pub use random::Random;
 pub use sessions::session;
 
 /// A command, and a key to look up in it.

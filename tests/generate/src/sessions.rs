@@ -62,7 +62,13 @@ fn poke_between(random: &mut Random, lines: &mut Vec<String>) {
     lines.insert(line, format!("poke {place} {}", hex(&bytes)));
 }
 
-fn talk(mut client: Client, random: &mut Random, lines: &mut Vec<String>) {
+fn talk(client: Client, random: &mut Random, lines: &mut Vec<String>) {
+    let steps = troubled(client, random);
+    cut(steps, random, lines);
+}
+
+/// Good steps, often one that is wrong, and a few behind it.
+pub fn troubled(mut client: Client, random: &mut Random) -> Vec<Step> {
     for _ in 0..random.between(0, 30) {
         client.act(random);
     }
@@ -81,7 +87,7 @@ fn talk(mut client: Client, random: &mut Random, lines: &mut Vec<String>) {
     for _ in 0..random.below(6) {
         client.act(random);
     }
-    cut(client.steps, random, lines);
+    client.steps
 }
 
 /// Flips a few bits of one frame, more often in its header.

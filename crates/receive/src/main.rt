@@ -1,0 +1,174 @@
+// Reads a capture of the line, the bytes that clients sent, and writes a line for each record that the channel makes of them. The input is
+// read in pieces: held are a piece of it, the channel's work area, one record and one line.
+mod diagnostic;
+mod line;
+mod record;
+mod words;
+
+use channel::Channel;
+use libc::STDIN_FILENO;
+use libc::STDOUT_FILENO;
+use line::Text;
+ghost use mathlib.Core.Path.{_≡_};
+ghost use mathlib.Core.Bool.{true, false};
+ghost use Prim.Native.Nat.{_≤_, _<_};
+ghost use lib.ListN.{length};
+
+// The channel's work area.
+type Work = [u8; 20488];
+
+// An output for feed: the longest record.
+type Output = [u8; 4103];
+
+// The channel, how many bytes of the input it took, and whether reading goes on: the input lasts, nothing is refused, and the output is
+// taken.
+struct Run {
+    channel: Channel,
+    place: u64,
+    is_going: bool,
+}
+
+// How many bytes of a piece one call of feed took, and the run after it.
+struct Step {
+    taken: usize,
+    run: Run,
+}
+
+// A proved loop has to end, and nothing says that the input does. So the loop counts its turns down, from a number that no run uses up.
+fn main() {
+    let mut work = [0u8; 20488];
+    let mut out = [0u8; 4103];
+    let mut run = first();
+    let mut turns = u64::MAX;
+    while turns > 0 {
+        if !run.is_going {
+            return;
+        }
+        run = read_some(run, &mut work, &mut out);
+        turns -= 1;
+    }
+}
+
+// Before the first byte.
+fn first() -> Run {
+    let channel = Channel::fresh();
+    Run {
+        channel,
+        place: 0,
+        is_going: true,
+    }
+}
+
+// Nothing more is read.
+fn ended(run: Run) -> Run
+    ensures { λ r. ⌜ r .«is_going» ≡ false ⌝ }
+{
+    let mut next = run;
+    next.is_going = false;
+    next
+}
+
+// Reads once and takes what came.
+fn read_some(run: Run, work: &mut Work, out: &mut Output) -> Run {
+    let mut piece = io::large_buffer();
+    let got = libc::read(STDIN_FILENO, &mut piece);
+    if got < 0 {
+        io::write_all(STDOUT_FILENO, b"the input cannot be read\n");
+        return ended(run);
+    }
+    if got == 0 {
+        let channel = run.channel;
+        say_end(channel.pending);
+        return ended(run);
+    }
+    let n = io::count(got, &piece);
+    take_all(run, &piece[..n], work, out)
+}
+
+// Takes bytes in order, until nothing more is read.
+fn take_all(run: Run, bytes: &[u8], work: &mut Work, out: &mut Output) -> Run {
+    let mut last = run;
+    let mut i: usize = 0;
+    while i < bytes.len() {
+        let step = take(last, &bytes[i..], work, out);
+        let next = step.run;
+        if !next.is_going {
+            return next;
+        }
+        last = next;
+        i += step.taken;
+    }
+    last
+}
+
+// One call of feed, and what there is to say of it. Behind a record the output is too short for another, so that the call stops before the
+// last byte of the next frame: the record's request is finished before that frame is judged, however the input came in pieces.
+fn take(run: Run, bytes: &[u8], work: &mut Work, out: &mut Output) -> Step
+    ensures { λ r. ⌜ (r .taken ≤ length (now (bytes .entry))) × (r .run .«is_going» ≡ true → 0 < r .taken) ⌝ }
+{
+    let before = run.channel;
+    let fed = before.feed(work, bytes, out);
+    let taken = fed.taken;
+    let after = fed.channel;
+    let written = keys::part(&out[..], 0, fed.written);
+    let channel = record::finished(after, written);
+    let next = Run {
+        channel,
+        place: std::num::wrapping_add_u64(run.place, taken as u64),
+        is_going: say_record(written),
+    };
+    let run = judged(next, fed.number, taken);
+    Step { taken, run }
+}
+
+// The run after an answer of feed: 0 and 5 go on, any other is said and ends it. So does a call that took nothing, which would go on for
+// ever; the demands' `Progress` says that there is none.
+fn judged(run: Run, number: u8, taken: usize) -> Run
+    ensures { λ r. ⌜ (r .«is_going» ≡ true → 0 < taken) ⌝ }
+{
+    if !run.is_going {
+        return ended(run);
+    }
+    if 0 < taken {
+        if number == 0 {
+            return run;
+        }
+        if number == 5 {
+            return run;
+        }
+    }
+    say_refusal(number, run.place);
+    ended(run)
+}
+
+// Writes the line of a record, where there is one, and answers whether the output took it.
+fn say_record(record: &[u8]) -> bool {
+    if record.len() == 0 {
+        return true;
+    }
+    let mut text = [0u8; 24576];
+    let n = line::put_record(record, &mut text);
+    say(&text, n)
+}
+
+// Writes what was refused, by its number and the count of bytes taken, the last of which was judged.
+fn say_refusal(number: u8, place: u64) {
+    let mut text = [0u8; 24576];
+    let n = line::put_refusal(number, std::num::wrapping_sub_u64(place, 1), &mut text);
+    say(&text, n);
+}
+
+// Writes how much there is of a frame that the input ends in.
+fn say_end(pending: usize) {
+    if pending == 0 {
+        return;
+    }
+    let mut text = [0u8; 24576];
+    let n = line::put_end(pending, &mut text);
+    say(&text, n);
+}
+
+// Writes the first n bytes of a text, and answers whether the output took them.
+fn say(text: &Text, n: usize) -> bool {
+    io::write_all(STDOUT_FILENO, keys::part(text, 0, n))
+}

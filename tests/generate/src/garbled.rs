@@ -1,0 +1,95 @@
+//! Lines of `replay`, damaged.
+
+use crate::random::Random;
+use crate::sessions::session;
+
+/// The longest line that is read has this many characters.
+const LONGEST: usize = 300_000;
+
+/// The lines of a session, of which every third or so is damaged, and
+/// between them lines of any bytes.
+pub fn garbled(seed: u64, index: u64) -> Vec<u8> {
+    let start = Random::new(seed ^ 0x6a5b).next() ^ Random::new(!index).next();
+    let random = &mut Random::new(start);
+    let mut text = Vec::new();
+    for line in session(seed, index) {
+        let mut line = line.into_bytes();
+        while random.percent(30) {
+            damage(&mut line, random);
+        }
+        text.extend(line);
+        text.push(b'\n');
+        if random.percent(8) {
+            text.extend(noise(random));
+            text.push(b'\n');
+        }
+    }
+    if random.percent(2) {
+        text.extend(long(random));
+        text.push(b'\n');
+    }
+    text.extend(b"state\nworksum\n");
+    text
+}
+
+fn damage(line: &mut Vec<u8>, random: &mut Random) {
+    let place = random.below(line.len() + 1);
+    let there = place < line.len();
+    match random.below(8) {
+        0 if there => line[place] = random.byte(),
+        1 if there => line[place] ^= 1 << random.below(8),
+        2 if there => {
+            line.remove(place);
+        }
+        3 if there => line[place] = line[place].to_ascii_uppercase(),
+        4 => line.insert(place, random.byte()),
+        5 => line.insert(place, random.pick(b" -:,0#\r\0")),
+        6 => line.truncate(place),
+        _ => number(line, random),
+    }
+}
+
+/// Another number in the place of one.
+fn number(line: &mut Vec<u8>, random: &mut Random) {
+    let text = String::from_utf8_lossy(line).into_owned();
+    let mut words: Vec<&str> = text.split(' ').collect();
+    let place = random.below(words.len());
+    words[place] = random.pick(&[
+        "",
+        "0",
+        "00000000000000000000000000007",
+        "-1",
+        "+1",
+        "255",
+        "256",
+        "65535",
+        "65536",
+        "100000",
+        "100001",
+        "18446744073709551615",
+        "18446744073709551616",
+        "99999999999999999999999999",
+    ]);
+    *line = words.join(" ").into_bytes();
+}
+
+fn noise(random: &mut Random) -> Vec<u8> {
+    let count = random.below(40);
+    if random.percent(50) {
+        return random.bytes(count);
+    }
+    let signs = b"0123456789abcdef fresh set feed poke state -:,#";
+    (0..count).map(|_| random.pick(signs)).collect()
+}
+
+/// About as long as the longest line, or far longer.
+fn long(random: &mut Random) -> Vec<u8> {
+    let word = random.pick::<&[u8]>(&[b"check ", b"feed 5000 ", b"poke 0 ", b"# ", b""]);
+    let count = match random.below(4) {
+        0 => 3 * LONGEST,
+        _ => LONGEST - word.len() - 2 + random.below(5),
+    };
+    let mut line = word.to_vec();
+    line.extend(std::iter::repeat_n(b'0', count));
+    line
+}

@@ -1,0 +1,88 @@
+# The programs run as users run them, for what no proof covers.
+
+rust_program tests/programs.rs "$out/programs" "$out"
+receive=target/bin/receive
+replay=target/bin/replay
+
+# The samples are those that make.rs makes, and receive writes of them what the documents show.
+rust -o "$out/make" samples/make.rs
+mkdir "$out/samples"
+"$out/make" "$out/samples" >"$out/samples/stdin"
+cmp "$out/samples/stdin" crates/receive/stdin
+shows() {
+    local text
+    text=$("$receive" <"$2")
+    [[ -n $text && $(cat "$1") == *$'\n```\n'"$text"$'\n```\n'* ]] || {
+        printf '%s does not show what receive writes of %s:\n%s\n' "$1" "$2" "$text"
+        return 1
+    }
+}
+for capture in samples/*.capture; do
+    cmp "$capture" "$out/$capture"
+    shows samples/README.md "$capture"
+done
+shows README.md samples/two-laptops.capture
+must_fail 'does not show' shows README.md samples/damaged.capture
+
+# Pieces of every size; a program that reads once only is found out.
+"$out/programs" pieces "$receive" crates/receive/stdin
+"$out/programs" pieces "$replay" crates/replay/stdin
+printf '#!/bin/sh\nexec dd bs=65536 count=1 status=none\n' >"$out/reads_once"
+chmod +x "$out/reads_once"
+must_fail 'writes something else in pieces of' "$out/programs" pieces "$out/reads_once" crates/replay/stdin
+cat crates/receive/stdin | "$receive" | cmp - crates/receive/stdout
+(
+    head -c 100 crates/receive/stdin
+    sleep 0.1
+    tail -c +101 crates/receive/stdin
+) | "$receive" | cmp - crates/receive/stdout
+
+# Captures of any bytes, and lines of any bytes.
+"$out/programs" captures "$receive" 1 "$captures"
+wrong_copy notation capture.rs 's/258(\[{}\])/[{}]/'
+rust_program tests/programs.rs "$copy/programs" "$copy"
+must_fail 'and not$' "$copy/programs" captures "$receive" 1 "$captures"
+answered=0
+"$out/programs" garbled 1 "$garbled" >"$out/lines"
+compare_lines "$out/lines" "$out/second_replay"
+bad=$(grep -c '^bad$' "$out/replay.answers")
+[ "$bad" -ge 1000 ] || { echo "only $bad of the damaged lines are bad"; exit 1; }
+echo "tests: $answered answers to damaged lines, $bad of them bad, each as the second program's"
+
+# A closed output ends a program on input without end: by the signal (status
+# 141), or, where that is ignored, since the write fails (status 0). $1 is the
+# status, $2 the program, the rest writes the input.
+ends_with() {
+    local wanted=$1 program=$2 status
+    shift 2
+    { "$@" 2>/dev/null || true; } | {
+        timeout 20 "$program" && echo 0 >"$out/status" || echo $? >"$out/status"
+    } | head -n 1 >"$out/first_line"
+    status=$(cat "$out/status")
+    [ "$status" -eq "$wanted" ] || { echo "$program ended with $status, not $wanted"; return 1; }
+    [ -s "$out/first_line" ] || { echo "$program wrote nothing"; return 1; }
+}
+capture_again() { while cat samples/two-laptops.capture; do :; done; }
+ends_with 141 "$receive" capture_again
+ends_with 141 "$replay" yes state
+(
+    trap '' PIPE
+    ends_with 0 "$receive" capture_again
+    ends_with 0 "$replay" yes state
+)
+for program in "$receive" "$replay"; do
+    timeout 20 "$program" <"crates/$(basename "$program")/stdin" >&-
+done
+
+# Input that cannot be read is said in one line.
+[ "$("$receive" </)" = "the input cannot be read" ]
+
+
+# No program calls an allocator.
+for object in target/obj/*.o; do
+    if nm -u "$object" | grep -wE 'malloc|calloc|realloc|free|aligned_alloc|posix_memalign|mmap|brk|sbrk'; then
+        echo "$object calls an allocator"
+        exit 1
+    fi
+done
+echo "tests: no program has a heap"

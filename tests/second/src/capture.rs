@@ -1,0 +1,147 @@
+//! What the program `receive` writes of a capture of the line. The bytes go
+//! to the receiver one at a time, and a command is written from its tree.
+
+use crate::frame::RECORD;
+use crate::receiver::Receiver;
+use crate::replay::to_hex;
+use crate::state::{State, WORK};
+use crate::value::{read_whole, Value};
+
+/// The lines of a capture. `words` says what a refusal number means.
+pub fn lines(capture: &[u8], words: impl Fn(u8) -> String) -> String {
+    let mut receiver = Receiver::start(State::fresh(), vec![0; WORK]);
+    let mut text = String::new();
+    for (place, byte) in capture.iter().enumerate() {
+        let mut output = [0; RECORD];
+        let fed = receiver.feed(&[*byte], &mut output);
+        if fed.number != 0 {
+            let (number, meaning) = (fed.number, words(fed.number));
+            return text + &format!("refused {number} at byte {place}: {meaning}\n");
+        }
+        if fed.written > 0 {
+            let record = Record::read(&output[..fed.written]);
+            text += &record.line();
+            if record.is_last() {
+                assert_eq!(receiver.finish(record.request), 0, "the request runs");
+            }
+        }
+    }
+    let pending = receiver.state().pending;
+    if pending > 0 {
+        text += &format!("the input ends inside a frame, after {pending} of its bytes\n");
+    }
+    text
+}
+
+struct Record<'r> {
+    is_command: bool,
+    request: u16,
+    bit: u8,
+    content: &'r [u8],
+}
+
+impl<'r> Record<'r> {
+    fn read(record: &'r [u8]) -> Record<'r> {
+        let number = |place: usize| u16::from_le_bytes([record[place], record[place + 1]]);
+        assert_eq!(usize::from(number(0)) + 4, record.len(), "one record");
+        Record {
+            is_command: number(2) == 1,
+            request: number(4),
+            bit: record[6],
+            content: &record[7..],
+        }
+    }
+
+    /// A command that no data follows, or the last data.
+    fn is_last(&self) -> bool {
+        self.is_command == (self.bit == 0)
+    }
+
+    fn line(&self) -> String {
+        let (request, bit) = (self.request, self.bit);
+        if !self.is_command {
+            let (count, bytes) = (self.content.len(), to_hex(self.content));
+            return format!("data {request} last {bit} {count} bytes {bytes}\n");
+        }
+        let Some(Value::Map(entries)) = read_whole(self.content) else {
+            panic!("a command's record has a map");
+        };
+        let under = |key: &[u8]| {
+            let mut found = entries.iter().filter(|entry| entry.0 == Value::Bytes(key));
+            found.next().map(|entry| notation(&entry.1))
+        };
+        let name = under(b"name").expect("a command has a name");
+        let args = under(b"args").expect("a command has arguments");
+        let mut line = format!("command {request} data {bit} name {name} args {args}");
+        if let Some(redirect) = under(b"redirect") {
+            line += &format!(" redirect {redirect}");
+        }
+        line + "\n"
+    }
+}
+
+/// The diagnostic notation of RFC 7049, section 6.
+fn notation(value: &Value) -> String {
+    let list = |items: &[Value]| items.iter().map(notation).collect::<Vec<_>>().join(", ");
+    match value {
+        Value::Unsigned(n) => n.to_string(),
+        Value::Negative(n) => (-1 - i128::from(*n)).to_string(),
+        Value::Bytes([]) => "h''".to_string(),
+        Value::Bytes(bytes) => format!("h'{}'", to_hex(bytes)),
+        Value::Array(items) => format!("[{}]", list(items)),
+        Value::Set(members) => format!("258([{}])", list(members)),
+        Value::Map(entries) => {
+            let pair = |(key, value): &(Value, Value)| notation(key) + ": " + &notation(value);
+            let pairs: Vec<_> = entries.iter().map(pair).collect();
+            format!("{{{}}}", pairs.join(", "))
+        }
+        Value::False => "false".to_string(),
+        Value::True => "true".to_string(),
+        Value::Null => "null".to_string(),
+    }
+}
+
+#[cfg(test)]
+mod tests {
+    use super::*;
+
+    /// RFC 7049, appendix A, those of the subset; and a set.
+    #[test]
+    fn published_notation() {
+        let cases: [(&[u8], &str); 9] = [
+            (
+                b"\x1b\xff\xff\xff\xff\xff\xff\xff\xff",
+                "18446744073709551615",
+            ),
+            (
+                b"\x3b\xff\xff\xff\xff\xff\xff\xff\xff",
+                "-18446744073709551616",
+            ),
+            (b"\x29", "-10"),
+            (b"\xf4", "false"),
+            (b"\xf6", "null"),
+            (b"\x40", "h''"),
+            (b"\x44\x01\x02\x03\x04", "h'01020304'"),
+            (b"\x83\x01\x82\x02\x03\x82\x04\x05", "[1, [2, 3], [4, 5]]"),
+            (
+                b"\xa2\x01\x02\x03\xd9\x01\x02\x81\x04",
+                "{1: 2, 3: 258([4])}",
+            ),
+        ];
+        for (bytes, text) in cases {
+            let value = read_whole(bytes).expect("an item of the subset");
+            assert_eq!(notation(&value), text);
+        }
+    }
+
+    /// T1, and a byte more.
+    #[test]
+    fn first_trace() {
+        let t1 = b"\x10\0\0\x01\0\x01\x01\x11\xa2\x44name\x43set\x44args\xa0";
+        let line = "command 1 data 0 name h'736574' args {}\n";
+        assert_eq!(lines(t1, |_| String::new()), line);
+        let more = [&t1[..], b"\0"].concat();
+        let end = "the input ends inside a frame, after 1 of its bytes\n";
+        assert_eq!(lines(&more, |_| String::new()), line.to_string() + end);
+    }
+}

@@ -1,0 +1,57 @@
+# Sessions and commands as lines: the program `replay` against the second
+# program, and the second receiver against the uncut reading.
+
+rust_program tests/sessions.rs "$out/sessions" "$out"
+rust_program tests/second_replay.rs "$out/second_replay" "$out"
+
+# Has the lines of file $1 answered by `replay` and by the second program $2, and
+# compares the answers. Adds their count to `answered`.
+compare_lines() {
+    local lines=$1 second=$2 place
+    target/bin/replay <"$lines" >"$out/replay.answers"
+    "$second" <"$lines" >"$out/second.answers"
+    if ! cmp -s "$out/replay.answers" "$out/second.answers"; then
+        place=$(cmp "$out/replay.answers" "$out/second.answers" 2>&1 | sed -n 's/.*line //p')
+        echo "replay differs from the second program in answer $place to the lines of $lines"
+        diff -a "$out/replay.answers" "$out/second.answers" | head -n 4 | cut -c 1-200
+        return 1
+    fi
+    answered=$((answered + $(wc -l <"$out/replay.answers")))
+}
+
+# As many sessions, by seeds from $1 to $2.
+compare_sessions() {
+    local seed
+    for ((seed = $1; seed <= $2; seed++)); do
+        "$out/sessions" make "$seed" "$sessions" >"$out/lines"
+        compare_lines "$out/lines" "$out/second_replay"
+    done
+}
+
+answered=0
+compare_sessions 1 1
+"$out/sessions" traces
+"$out/sessions" check 1 "$sessions"
+"$out/sessions" commands 1 "$commands" >"$out/lines"
+compare_lines "$out/lines" "$out/second_replay"
+echo "tests: $sessions sessions and $commands commands, $answered answers of replay, each as the second program's"
+
+# A wrong receiver breaks demand 3 or a trace, and differs from `replay`.
+wrong_receiver() {
+    wrong_copy "$1" receiver.rs "$2" 1
+    rust_program tests/sessions.rs "$copy/sessions" "$copy"
+    rust_program tests/second_replay.rs "$copy/second_replay" "$copy"
+    must_fail '^sessions: ' "$copy/sessions" check 1 "$sessions"
+    must_fail '^replay differs' compare_lines "$out/lines" "$copy/second_replay"
+}
+"$out/sessions" make 1 "$sessions" >"$out/lines"
+wrong_receiver empty_is_last 's/if frame\.flags() == LAST_DATA {/if frame.payload().is_empty() {/'
+wrong_receiver end_ignored 's/is_some_and(|frame| !frame\.ends())/is_some()/'
+must_fail '^sessions: ' "$out/sessions" check 1 3
+
+if [ "$long" -eq 1 ]; then
+    answered=0
+    compare_sessions 2 201
+    "$out/sessions" check 2 $((200 * sessions))
+    echo "tests: $((200 * sessions)) sessions more, $answered answers of replay, each as the second program's"
+fi
