@@ -75,8 +75,10 @@ for program in "$receive" "$replay"; do
 done
 
 # Input that cannot be read is said in one line.
-[ "$("$receive" </)" = "the input cannot be read" ]
-
+for program in "$receive" "$replay"; do
+    text=$("$program" </)
+    [ "$text" = "the input cannot be read" ] || { echo "$program says '$text' of a folder"; exit 1; }
+done
 
 # No program calls an allocator.
 for object in target/obj/*.o; do

@@ -2,10 +2,9 @@
 use crate::answers;
 use crate::lookups;
 use crate::state;
-use crate::words;
-use crate::words::Number;
 use channel::Channel;
 use channel::Fed;
+use words::Number;
 ghost use mathlib.Core.Path.{_≡_};
 ghost use Prim.Native.Nat.{_≤_};
 ghost use Rattle.replay.specs.Sum.{adlerOf};

@@ -3,8 +3,7 @@ use crate::answers;
 use crate::calls::Answer;
 use crate::calls::Bytes;
 use crate::calls::Request;
-use crate::words;
-use crate::words::Number;
+use words::Number;
 
 // Does what a line asks of a command.
 pub fn run(request: Request, line: &[u8], bytes: &mut Bytes, answer: &mut Answer) -> usize {

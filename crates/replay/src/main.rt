@@ -4,7 +4,6 @@ mod answers;
 mod calls;
 mod lookups;
 mod state;
-mod words;
 
 use calls::Answer;
 use calls::Bytes;
@@ -71,7 +70,11 @@ fn read_some(
 ) -> Session {
     let mut piece = io::large_buffer();
     let got = libc::read(STDIN_FILENO, &mut piece);
-    if got <= 0 {
+    if got < 0 {
+        io::write_all(STDOUT_FILENO, b"the input cannot be read\n");
+        return ended(session);
+    }
+    if got == 0 {
         return ended(finish(session, line, bytes, work, out, answer));
     }
     let n = io::count(got, &piece);

@@ -1,9 +1,8 @@
 // The channel's state as text: the dead number, the pending count, the eight slots, and the ids of the open streams.
-use crate::words;
-use crate::words::Number;
 use channel::Channel;
 use requests::Phase;
 use requests::Slot;
+use words::Number;
 ghost use Prim.Native.Nat.{_≤_, _<_};
 
 // A state that was read; where none was, the fresh one stands in its place.
