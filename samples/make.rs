@@ -1,6 +1,6 @@
 // Makes the captures of this folder, and on standard output the one that crates/receive is tested on:
 //
-//     rustc samples/make.rs -o /tmp/make && /tmp/make samples >crates/receive/stdin
+//     rustc samples/make.rs --out-dir target && target/make samples >crates/receive/stdin
 //
 // A capture is the bytes of the line as clients sent them: frames, one after another.
 

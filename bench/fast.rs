@@ -1,0 +1,291 @@
+//! A receiver by hand, for comparing times: the rules 11 to 29, with the
+//! state changed in place, slices copied whole, and nothing allocated. Its
+//! state is private and so always in shape: rule 3 is not asked.
+
+use crate::check::check;
+
+const HEADER: usize = 8;
+const PAYLOAD: usize = 4096;
+const COMMAND: usize = 2048;
+pub const RECORD: usize = 7 + PAYLOAD;
+const PARTS: usize = HEADER + PAYLOAD;
+pub const WORK: usize = PARTS + SLOTS * COMMAND;
+const SLOTS: usize = 8;
+
+#[derive(Clone, Copy, PartialEq, Eq)]
+enum Phase {
+    Free,
+    Collecting,
+    Waiting,
+    Running,
+}
+
+#[derive(Clone, Copy)]
+struct Slot {
+    id: u16,
+    phase: Phase,
+    with_data: bool,
+    length: usize,
+}
+
+const FREE: Slot = Slot {
+    id: 0,
+    phase: Phase::Free,
+    with_data: false,
+    length: 0,
+};
+
+struct Header {
+    length: usize,
+    request: u16,
+    stream: u8,
+    stream_flags: u8,
+    kind: u8,
+    flags: u8,
+}
+
+impl Header {
+    fn is_set(&self, flag: u8) -> bool {
+        self.flags & flag != 0
+    }
+}
+
+pub struct Fed {
+    pub number: u8,
+    pub taken: usize,
+    pub written: usize,
+}
+
+pub struct Receiver<'a> {
+    work: &'a mut [u8; WORK],
+    dead: u8,
+    pending: usize,
+    slots: [Slot; SLOTS],
+    /// Bit k for stream 2k + 1.
+    open: u128,
+}
+
+impl<'a> Receiver<'a> {
+    pub fn new(work: &'a mut [u8; WORK]) -> Receiver<'a> {
+        Receiver {
+            work,
+            dead: 0,
+            pending: 0,
+            slots: [FREE; SLOTS],
+            open: 0,
+        }
+    }
+
+    pub fn work(&self) -> &[u8] {
+        self.work
+    }
+
+    pub fn feed(&mut self, input: &[u8], out: &mut [u8]) -> Fed {
+        let mut fed = Fed {
+            number: 0,
+            taken: 0,
+            written: 0,
+        };
+        if self.dead != 0 {
+            fed.number = self.dead;
+        } else if out.len() < RECORD {
+            fed.number = 1;
+        } else if let Err(number) = self.read(input, out, &mut fed) {
+            fed.number = number;
+            if number != 5 {
+                self.dead = number;
+                self.pending = 0;
+            }
+        }
+        fed
+    }
+
+    fn read(&mut self, input: &[u8], out: &mut [u8], fed: &mut Fed) -> Result<(), u8> {
+        while fed.taken < input.len() {
+            let room = out.len() - fed.written >= RECORD;
+            if self.pending < HEADER {
+                // Without room the eighth byte waits: it may be the last.
+                let goal = if room { HEADER } else { HEADER - 1 };
+                if !self.take(input, goal, fed) {
+                    return Ok(());
+                }
+                if !room {
+                    if fed.taken == input.len() {
+                        return Ok(());
+                    }
+                    if self.claimed() == 0 {
+                        return Err(5);
+                    }
+                    self.take(input, HEADER, fed);
+                }
+                if self.claimed() > PAYLOAD {
+                    return Err(11);
+                }
+            }
+            let end = HEADER + self.claimed();
+            let goal = if room { end } else { end - 1 };
+            if !self.take(input, goal, fed) {
+                return Ok(());
+            }
+            if room {
+                fed.written += self.judge(&mut out[fed.written..])?;
+                self.pending = 0;
+            } else if fed.taken < input.len() {
+                return Err(5);
+            }
+        }
+        Ok(())
+    }
+
+    /// Takes bytes of the frame up to `goal`. False if the input ends before.
+    fn take(&mut self, input: &[u8], goal: usize, fed: &mut Fed) -> bool {
+        let rest = &input[fed.taken..];
+        let count = (goal - self.pending).min(rest.len());
+        self.work[self.pending..][..count].copy_from_slice(&rest[..count]);
+        self.pending += count;
+        fed.taken += count;
+        self.pending == goal
+    }
+
+    fn claimed(&self) -> usize {
+        u32::from_le_bytes([self.work[0], self.work[1], self.work[2], 0]) as usize
+    }
+
+    /// The frame rules behind 11, in their order. The record's length.
+    fn judge(&mut self, out: &mut [u8]) -> Result<usize, u8> {
+        let header = Header {
+            length: self.claimed(),
+            request: u16::from_le_bytes([self.work[3], self.work[4]]),
+            stream: self.work[5],
+            stream_flags: self.work[6],
+            kind: self.work[7] >> 4,
+            flags: self.work[7] & 0x0f,
+        };
+        refuse_if(header.request & 1 == 0, 12)?;
+        refuse_if(header.stream & 1 == 0, 13)?;
+        refuse_if(header.stream_flags >= 0x08, 14)?;
+        refuse_if(!matches!(header.kind, 1 | 2 | 9), 15)?;
+        let bit = 1u128 << (header.stream >> 1);
+        let open = self.open & bit != 0;
+        let begins = header.stream_flags & 0x01 != 0;
+        refuse_if(!open && !begins, 16)?;
+        refuse_if(open && begins, 17)?;
+        let written = match header.kind {
+            1 => self.command(&header, out)?,
+            2 => self.data(&header, out)?,
+            _ => self.settings(&header, begins)?,
+        };
+        if header.stream_flags & 0x02 != 0 {
+            self.open &= !bit;
+        } else {
+            self.open |= bit;
+        }
+        Ok(written)
+    }
+
+    fn command(&mut self, header: &Header, out: &mut [u8]) -> Result<usize, u8> {
+        let with_data = header.is_set(0x08);
+        let held = self.slot_of(header.request);
+        let place = match header.flags & 0x03 {
+            0x01 => {
+                refuse_if(held.is_some(), 19)?;
+                let free = self.slots.iter().position(|slot| slot.phase == Phase::Free);
+                free.ok_or(20)?
+            }
+            0x02 => {
+                let place = held.ok_or(21)?;
+                refuse_if(self.slots[place].phase != Phase::Collecting, 21)?;
+                refuse_if(self.slots[place].with_data != with_data, 22)?;
+                place
+            }
+            _ => return Err(18),
+        };
+        let before = self.slots[place].length;
+        let length = before + header.length;
+        refuse_if(length > COMMAND, 23)?;
+        let (frame, parts) = self.work.split_at_mut(PARTS);
+        let part = &mut parts[place * COMMAND..][..COMMAND];
+        part[before..length].copy_from_slice(&frame[HEADER..][..header.length]);
+        let mut written = 0;
+        let phase = if header.is_set(0x04) {
+            Phase::Collecting
+        } else {
+            let number = check(&part[..length]);
+            refuse_if(number != 0, number)?;
+            written = put_record(out, 1, header.request, with_data, &part[..length]);
+            if with_data {
+                Phase::Waiting
+            } else {
+                Phase::Running
+            }
+        };
+        self.slots[place] = Slot {
+            id: header.request,
+            phase,
+            with_data,
+            length: if phase == Phase::Collecting {
+                length
+            } else {
+                0
+            },
+        };
+        Ok(written)
+    }
+
+    fn data(&mut self, header: &Header, out: &mut [u8]) -> Result<usize, u8> {
+        refuse_if(!matches!(header.flags, 0x01 | 0x02), 18)?;
+        let place = self.slot_of(header.request).ok_or(27)?;
+        let slot = &mut self.slots[place];
+        refuse_if(slot.phase != Phase::Waiting, 27)?;
+        let last = header.flags == 0x02;
+        if last {
+            slot.phase = Phase::Running;
+        }
+        let payload = &self.work[HEADER..][..header.length];
+        Ok(put_record(out, 2, header.request, last, payload))
+    }
+
+    fn settings(&self, header: &Header, begins: bool) -> Result<usize, u8> {
+        refuse_if(header.flags != 0x02, 18)?;
+        refuse_if(!begins, 28)?;
+        let payload = &self.work[HEADER..][..header.length];
+        refuse_if(!crate::check::is_identity(payload), 29)?;
+        Ok(0)
+    }
+
+    /// Used slots have odd ids, and free ones 0.
+    fn slot_of(&self, id: u16) -> Option<usize> {
+        self.slots.iter().position(|slot| slot.id == id)
+    }
+
+    pub fn finish(&mut self, id: u16) -> u8 {
+        if self.dead != 0 {
+            return self.dead;
+        }
+        let held = self.slots.iter_mut().find(|slot| slot.id == id);
+        match held {
+            Some(slot) if slot.phase == Phase::Running => {
+                *slot = FREE;
+                0
+            }
+            _ => 4,
+        }
+    }
+}
+
+fn put_record(out: &mut [u8], kind: u8, request: u16, bit: bool, content: &[u8]) -> usize {
+    let body = (content.len() as u16 + 3).to_le_bytes();
+    let id = request.to_le_bytes();
+    let head = [body[0], body[1], kind, 0, id[0], id[1], u8::from(bit)];
+    out[..7].copy_from_slice(&head);
+    out[7..][..content.len()].copy_from_slice(content);
+    7 + content.len()
+}
+
+fn refuse_if(broken: bool, number: u8) -> Result<(), u8> {
+    if broken {
+        Err(number)
+    } else {
+        Ok(())
+    }
+}
