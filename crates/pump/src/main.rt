@@ -142,10 +142,11 @@ fn take_all(run: Run, most: usize, bytes: &[u8], work: &mut Work, out: &mut [u8]
         let fed = channel.feed(work, &bytes[i..end], out);
         let after = fed.channel;
         channel = after;
-        let record = keys::part(&out[..], 0, fed.written);
-        counts = counted(counts, fed.taken, record);
-        if runs(record) {
-            let done = channel.finish(request_of(record));
+        let written = keys::part(&out[..], 0, fed.written);
+        counts = counted(counts, fed.taken, written);
+        let head = records::read_head(written);
+        if head.runs() {
+            let done = channel.finish(head.request);
             let next = done.channel;
             channel = next;
         }
@@ -191,38 +192,15 @@ fn goes_on(number: u8, taken: usize) -> bool
     (number == 0) | (number == 5)
 }
 
-// Whether a record makes its request run: a command that no data follows, or the last data.
-fn runs(record: &[u8]) -> bool {
-    if record.len() < 7 {
-        return false;
-    }
-    let kind = record[2];
-    let bit = record[6];
-    ((kind == 1) & (bit == 0)) | ((kind == 2) & (bit == 1))
-}
-
-// The request of a record, 0 where bytes are missing.
-fn request_of(record: &[u8]) -> u16 {
-    if record.len() < 7 {
-        return 0;
-    }
-    joined(record[4], record[5])
-}
-
-// Two bytes as a number, the low one first.
-fn joined(low: u8, high: u8) -> u16 {
-    (low as u16) + 256 * (high as u16)
-}
-
 // The counts with the bytes that a call took and the records that it made. The sum takes their last byte and their length.
-fn counted(counts: Counts, taken: usize, record: &[u8]) -> Counts {
+fn counted(counts: Counts, taken: usize, records: &[u8]) -> Counts {
     let mut next = counts;
     next.place = std::num::wrapping_add_u64(counts.place, taken as u64);
-    let size = record.len();
+    let size = records.len();
     if size == 0 {
         return next;
     }
-    let last = record[size - 1];
+    let last = records[size - 1];
     next.bytes = std::num::wrapping_add_u64(counts.bytes, size as u64);
     next.sum = added(counts.sum, size, last);
     next

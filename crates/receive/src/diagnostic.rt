@@ -1,7 +1,6 @@
 // Items of the CBOR subset in the diagnostic notation of RFC 7049, section 6. One loop walks over the items, with a row of the containers
 // that are open; eight are as many as the check lets nest. Bytes that do not pass the check end the walk.
 use crate::line::Text;
-use crate::record;
 use cbor::Item;
 use cbor::Next;
 ghost use mathlib.Core.Path.{_≡_};
@@ -196,7 +195,7 @@ fn put_item(s: &[u8], at: usize, x: Item, out: &mut Text, end: usize) -> usize {
         Item::Unsigned(n, _) => text::put_decimal(n, out, end),
         Item::Negative(n, _) => text::put_negative(n, out, end),
         Item::Bytes(start, stop) => put_bytes(keys::part(s, start, stop), out, end),
-        Item::Simple(_) => put_simple(record::byte_at(s, at), out, end),
+        Item::Simple(_) => put_simple(frame::byte_at(s, at), out, end),
         Item::Array(_, _) => text::put(b"[", out, end),
         Item::Map(_, _) => text::put(b"{", out, end),
         Item::Set(_, _) => text::put(b"258([", out, end),

@@ -1,19 +1,18 @@
 // The lines that the program writes. Each function puts its text into a buffer, and answers the position after it.
 use crate::diagnostic;
-use crate::record;
-use crate::record::Head;
 use crate::words;
 use cbor::Item;
 use command_map::Checked;
 use entries::Entry;
+use records::Head;
 
 // Room for the longest line, of fewer than 15,000 bytes: a command of 2,048 bytes becomes at most seven times as long.
 pub(crate) type Text = [u8; 24576];
 
 // A record's line.
 pub(crate) fn put_record(record: &[u8], out: &mut Text) -> usize {
-    let head = record::head_of(record);
-    let content = record::content(record);
+    let head = records::read_head(record);
+    let content = records::content(record);
     if head.kind == 1 {
         return put_command(head, content, out);
     }

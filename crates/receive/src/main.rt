@@ -2,7 +2,6 @@
 // read in pieces: held are a piece of it, the channel's work area, one record and one line.
 mod diagnostic;
 mod line;
-mod record;
 mod words;
 
 use channel::Channel;
@@ -111,7 +110,7 @@ fn take(run: Run, bytes: &[u8], work: &mut Work, out: &mut Output) -> Step
     let taken = fed.taken;
     let after = fed.channel;
     let written = keys::part(&out[..], 0, fed.written);
-    let channel = record::finished(after, written);
+    let channel = finished(after, written);
     let next = Run {
         channel,
         place: std::num::wrapping_add_u64(run.place, taken as u64),
@@ -119,6 +118,17 @@ fn take(run: Run, bytes: &[u8], work: &mut Work, out: &mut Output) -> Step
     };
     let run = judged(next, fed.number, taken);
     Step { taken, run }
+}
+
+// The channel with the record's request finished, where the record made it run.
+fn finished(channel: Channel, record: &[u8]) -> Channel {
+    let head = records::read_head(record);
+    if head.runs() {
+        let done = channel.finish(head.request);
+        let next = done.channel;
+        return next;
+    }
+    channel
 }
 
 // The run after an answer of feed: 0 and 5 go on, any other is said and ends it. So does a call that took nothing, which would go on for

@@ -9,8 +9,8 @@ use native.Mathlib.Nat.{zero-add, suc-add, sub-zero}
 use native.Mathlib.Omega.{arith}
 use lib.ListN.{length, length-append}
 use lib.Dec.{ltb}
-use Rattle.session.specs.Session.{Machine, Step, Reading, after, read}
-use Rattle.session.proofs.Laws.{not-zero, behind, read-short, read-refused, read-more, read-case}
+use Rattle.session.specs.Session.{Machine, Step, Reading, Feed, after, read, unchanged, wrote, feed}
+use Rattle.session.proofs.Laws.{not-zero, behind, read-short, read-refused, read-more, read-case, Fed, still, reads, feed-cases}
 
 after-behind : {R : Type 0} (new recs : List ℕ) (n : ℕ) (g : Reading R) → after new (behind n recs g) ≡ behind (suc n) (new ++ recs) g
 unfolding after
@@ -72,6 +72,14 @@ module _ (m : Machine) where
       (λ r room b bs e. omega arith)
       (λ r room b bs n e d. omega arith)
       (λ r room b bs g e d ih. omega arith)
+
+  pub feed-within : (r : m .Recv) (input out : List ℕ) {f : Feed (m .Recv)} → f ≡ feed m r input out → f .taken ≤ length input
+  unfolding unchanged wrote
+  feed-within r input out e = rw e (either (feed-cases m r input out))
+    where
+      either : {f : Feed (m .Recv)} → Fed m r input out f → f .taken ≤ length input
+      either (still n) = omega arith
+      either reads = read-within r (length out) input
 
   -- a receiver that was live before a reading to the end is live after it
   pub read-live : (r : m .Recv) (room : ℕ) (xs : List ℕ) → m .dead r ≡ 0 → read m r room xs .number ≡ 0 → m .dead (read m r room xs .next) ≡ 0

@@ -7,27 +7,17 @@ use mathlib.Core.List.{List}
 use Prim.Native.Nat.{ℕ, _+_, _-_, _≤_, _<_}
 use native.Mathlib.Omega.{arith}
 use lib.ListN.{length, take, drop, length-take, length-drop}
-use Rattle.session.specs.Session.{Feed, unchanged, wrote, feed}
-use Rattle.session.proofs.Laws.{Fed, still, reads, feed-cases}
-use Rattle.session.proofs.Pieces.{read-within}
+use Rattle.session.specs.Session.{Feed, feed}
+use Rattle.session.proofs.Pieces.{feed-within}
 use Rattle.channel.specs.Channel.{channel}
 use Rattle.channel.specs.Receiver.{Receiver}
 use Rattle.pump.proofs.take_all.Statement.{statement}
 use Rattle.pump.proofs.take_all.Tie as tie
 
-module _ (r : Receiver) (input out : List ℕ) where
-  either : {f : Feed Receiver} → Fed channel r input out f → f .taken ≤ length input
-  unfolding unchanged wrote
-  either (still n) = omega arith
-  either reads = read-within channel r (length out) input
-
-  within : {f : Feed Receiver} → f ≡ feed channel r input out → f .taken ≤ length input
-  within h = rw h (either (feed-cases channel r input out))
-
 -- a call on the bytes of s from i up to e takes none behind e
 ends : (r : Receiver) (s : List ℕ) (i e : ℕ) (out : List ℕ) {f : Feed Receiver} → f ≡ feed channel r (take (e - i) (drop i s)) out → i < e → e ≤ length s → i + f .taken ≤ e
 ends r s i e out h a b =
-    let t = simp (length-take, length-drop) at (within r (take (e - i) (drop i s)) out h) in
+    let t = simp (length-take, length-drop) at (feed-within channel r (take (e - i) (drop i s)) out h) in
     omega (arith, t)
 
 through : {m e n : ℕ} → m ≤ e → e ≤ n → m ≤ n
@@ -45,12 +35,12 @@ abbrev μ-loop : tie.MeasureT-loop
 
 same-length : tie.Need-same-length Inv-loop μ-loop
 same-length c =
-    let t = c .before .before .before .before .before .before .before .before .before .before .before in
+    let t = c .before .before .before .before .before .before .before .before .before .before .before .before in
     t .feed .kept .1 .1 .1 .0 ∙ t .before .before .before .before .before .before .loop .inv .2
 
 add-i : tie.Need-add-i Inv-loop μ-loop
 add-i c =
-    let t = c .before .before .before .before .before .before .before .before .before .before .before in
+    let t = c .before .before .before .before .before .before .before .before .before .before .before .before in
     let p = t .before .before .before .before in
     let s = p .before .before .before .before .before .before .before .args .bytes .now in
     let h = ends _ s (p .before .before .loop .i) (p .piece-end .result) _ (t .feed .ensures) (p .piece-end .ensures .0) (p .piece-end .ensures .1) in
@@ -58,12 +48,12 @@ add-i c =
 
 loop-less : tie.Need-loop-less Inv-loop μ-loop
 loop-less c =
-    let p = c .before .before .before .before .before .before .before .before .before .before .before .before .before .before .before in
+    let p = c .before .before .before .before .before .before .before .before .before .before .before .before .before .before .before .before in
     fewer (p .piece-end .ensures .0) (p .piece-end .ensures .1) (c .before .before .goes-on .ensures (not-false _ (c .before .if2 .left)))
 
 loop-again : tie.Need-loop-again Inv-loop μ-loop
 loop-again c =
-    let t = c .before .before .before .before .before .before .before .before .before .before .before in
+    let t = c .before .before .before .before .before .before .before .before .before .before .before .before in
     let p = t .before .before .before .before in
     let s = p .before .before .before .before .before .before .before .args .bytes .now in
     let h = ends _ s (p .before .before .loop .i) (p .piece-end .result) _ (t .feed .ensures) (p .piece-end .ensures .0) (p .piece-end .ensures .1) in

@@ -1,0 +1,15 @@
+-- What feed writes of a request is what is read back.
+-- Assumes nothing.
+use Prim.Native.Nat.{ℕ, _+_, _*_, _/_, _%_, _<_}
+use mathlib.Core.Path.{_≡_, refl}
+use native.Mathlib.Omega.{arith}
+use Rattle.frame.specs.Records.{recordOf}
+use Rattle.records.specs.Records.{numberAt, headOf, AllReadBack}
+
+-- a number below 65,536 in two bytes
+joined : (n : ℕ) → n < 65536 → n % 256 + 256 * (n / 256 % 256) ≡ n
+joined n h = omega arith
+
+pub read-back : AllReadBack
+unfolding recordOf numberAt headOf
+read-back kind request third bytes k r = record { head = rw (joined kind k, joined request r); content = refl }

@@ -1,0 +1,13 @@
+-- `records::read_head` meets its contract, by the numbers read.
+-- Assumes nothing.
+use borrow.Author.Needs.{needs}
+use Rattle.records.specs.Records.{headOf}
+use Rattle.records.proofs.read_head.Statement.{statement}
+use Rattle.records.proofs.read_head.Tie as tie
+
+returns : tie.Need-returns
+unfolding headOf
+returns c = rw (c .before .before .number-at .ensures, c .before .number-at2 .ensures, c .byte-at .ensures)
+
+pub read-head-spec : {M : Type 1} → statement M
+read-head-spec = tie.close (tie.spec (λ c κs. search needs) (λ c κs. search needs) (λ c κs. search needs) returns)
