@@ -22,6 +22,12 @@ wrong() {
 build_compare_rust "$out"
 build_compare_c "$out"
 
+# The README's program prints 0.
+sed -n '/^```c$/,/^```$/{/^```/d;p;}' README.md >"$out/desk.c"
+gcc -std=gnu11 -Iinclude -Wall -Wextra -Werror -O2 -o "$out/desk" "$out/desk.c" "$out/libcommand.a"
+printed=$("$out/desk")
+[ "$printed" = 0 ] || { echo "the README's C program prints $printed"; exit 1; }
+
 # The two long runs go on while the wrong copies are tried.
 "$out/compare_rust" "$commands" >"$out/compare_rust.log" 2>&1 &
 run_rust=$!

@@ -1,14 +1,13 @@
 -- A byte that is judged, read alone: the eighth of its frame, or its last.
 -- Assumes nothing.
-use Prim.Native.Nat.{ℕ, suc, _+_, _-_, _≤_, _<_, min}
+use Prim.Native.Nat.{ℕ, suc, _+_, _≤_, _<_}
 use mathlib.Core.Path.{_≡_, refl, ap, _∙_}
-use mathlib.Core.Logic.{_⊎_, inl, inr}
-use mathlib.Core.Bool.{Bool, true, false, cond, _&&_}
+use mathlib.Core.Bool.{Bool, true, false, _&&_}
 use mathlib.Core.List.{List, [], _∷_}
 use native.Mathlib.Omega.{arith}
 use lib.ListN.{set}
 use lib.Dec.{ltb, eqb}
-use borrow.Author.Tests.{eqb-true, eq-eqb, ne-eqb, ltb-true, ltb-false, lt-ltb, le-ltb}
+use borrow.Author.Tests.{eqb-true, eq-eqb, ne-eqb, lt-ltb, le-ltb}
 use Rattle.frame.specs.Limits.{maxPayload, longestRecord}
 use Rattle.frame.specs.Header.{lengthOf}
 use Rattle.frame.specs.Frame.{frameOf}
@@ -17,9 +16,9 @@ use Rattle.session.proofs.Laws.{read-short}
 use Rattle.session.proofs.Pieces.{read-one}
 use Rattle.channel.specs.declared.Channel.{Channel}
 use Rattle.channel.specs.Receiver.{Receiver, slotAt, placeOf, lowestFree, target, commandLength, command, placed, streamOpen, viewOf, refused, refusedWork, commandSlot, slotsAfter, streamsAfter, accepted, judge, put, isWhole, tooLong, counted}
-use Rattle.channel.specs.Channel.{channel, heldShape}
-use Rattle.channel.specs.Steps.{receiver, stepped, quietCount}
-use Rattle.channel.proofs.ReceiverLaws.{length-later, held-e, take-live}
+use Rattle.channel.specs.Channel.{channel}
+use Rattle.channel.specs.Steps.{receiver, stepped, pendingSet}
+use Rattle.channel.proofs.ReceiverLaws.{length-later, take-live}
 use Rattle.channel.proofs.FrameLaws.{judged-at, counted-whole, counted-open}
 
 module _ (s : Channel) (w : List ℕ) (b : ℕ) where
@@ -31,18 +30,6 @@ module _ (s : Channel) (w : List ℕ) (b : ℕ) where
 
   abbrev filled : List ℕ
   filled = set w n b
-
-  -- no further byte can be put unjudged: the next is the eighth, or the last
-  pub judged-place : heldShape r ≡ true → quietCount n (lengthOf w) 1 ≡ 0 → (n ≡ 7) ⊎ ((8 ≤ n) × (n ≡ 7 + lengthOf w) × (lengthOf w ≤ maxPayload))
-  unfolding quietCount
-  judged-place k q = go (ltb n 8) refl q
-    where
-      go : (t : Bool) → ltb n 8 ≡ t → cond t (min 1 (7 - n)) (min 1 (7 + lengthOf w - n)) ≡ 0 → (n ≡ 7) ⊎ ((8 ≤ n) × (n ≡ 7 + lengthOf w) × (lengthOf w ≤ maxPayload))
-      go true e h = inl (omega (arith, ltb-true n 8 e))
-      go false e h =
-          let l : 8 ≤ n = ltb-false n 8 e in
-          let (a, c) = held-e r k l in
-          inr (l, omega arith, a)
 
   module _ (live : s .dead ≡ 0) (late : 7 ≤ n) where
     same : lengthOf filled ≡ lengthOf w
@@ -83,13 +70,13 @@ module _ (s : Channel) (w : List ℕ) (b : ℕ) where
     byte-short room e l = read-short channel r room b [] (rw (closing e, lt-ltb room longestRecord l))
 
     -- the count of pending bytes plays no part in what the rules say
-    unpended : judged-at (put r b) ≡ judge s (frameOf filled) filled
+    unpended : judged-at (put r b) ≡ judge (pendingSet s 0) (frameOf filled) filled
     unfolding judged-at put judge viewOf accepted refused refusedWork placed command commandLength target slotAt placeOf lowestFree streamOpen slotsAfter streamsAfter commandSlot
     unpended = refl
 
     pub byte-whole : (room : ℕ) → n ≡ 7 + lengthOf w → lengthOf w ≤ maxPayload → longestRecord ≤ room
-        → read channel r room (b ∷ []) ≡ stepped (judge s (frameOf filled) filled)
-    byte-whole room e l k = read-as room (judge s (frameOf filled) filled) (goes room k) (counted-whole (put r b) (fits (λ _. l)) (closing e) ∙ unpended)
+        → read channel r room (b ∷ []) ≡ stepped (judge (pendingSet s 0) (frameOf filled) filled)
+    byte-whole room e l k = read-as room (judge (pendingSet s 0) (frameOf filled) filled) (goes room k) (counted-whole (put r b) (fits (λ _. l)) (closing e) ∙ unpended)
 
     long : n ≡ 7 → maxPayload < lengthOf w → counted (put r b) ≡ refused 11 s filled
     unfolding counted tooLong put refused
@@ -106,7 +93,7 @@ module _ (s : Channel) (w : List ℕ) (b : ℕ) where
     begun number pending = record {
       number = number;
       taken = 1;
-      next = receiver (record { dead = s .dead; pending = pending; slots = s .slots; streams = s .streams }) filled;
+      next = receiver (pendingSet s pending) filled;
       records = [];
     }
 

@@ -6,4 +6,5 @@ mod Finish
 pub mod FrameLaws
 pub mod QuietLaws
 pub mod ByteLaws
+pub mod PieceLaws
 pub mod LoopLaws

@@ -82,7 +82,7 @@ held-e r e h = go (ltb (r .state .pending) 8) refl e
         below l = omega arith
     go false q p = (leb-true L maxPayload (and-l (leb L maxPayload) (ltb n (8 + L)) p), ltb-true n (8 + L) (and-r (leb L maxPayload) (ltb n (8 + L)) p))
 
-pub held-i : (r : Receiver) → (8 ≤ r .state .pending → (lengthOf (r .work) ≤ maxPayload) × (r .state .pending < 8 + lengthOf (r .work))) → heldShape r ≡ true
+held-i : (r : Receiver) → (8 ≤ r .state .pending → (lengthOf (r .work) ≤ maxPayload) × (r .state .pending < 8 + lengthOf (r .work))) → heldShape r ≡ true
 unfolding heldShape
 held-i r h = go (ltb (r .state .pending) 8) refl
   where

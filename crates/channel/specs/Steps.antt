@@ -1,14 +1,14 @@
 -- What the private functions under feed answer, by the definitions of the receiver and of reading.
 -- These are definitions: they assume nothing.
-use Prim.Native.Nat.{ℕ, _+_, _-_, _/_, _≤_, min}
+use Prim.Native.Nat.{ℕ, _+_, _-_, _/_, _≤_, _<_, min}
 use mathlib.Core.Path.{_≡_}
 use mathlib.Core.Bool.{cond, not}
 use mathlib.Core.List.{List, []}
-use lib.ListN.{length, set}
-use lib.Dec.{leb, ltb}
+use lib.ListN.{length, take, getD, set}
+use lib.Dec.{leb, ltb, eqb}
 use Rattle.buffer.specs.Bytes.{write}
 use Rattle.frame.specs.declared.Header.{Header}
-use Rattle.frame.specs.Limits.{maxPayload, workArea}
+use Rattle.frame.specs.Limits.{maxPayload, longestRecord, workArea}
 use Rattle.frame.specs.Header.{lengthOf, headerOf}
 use Rattle.frame.specs.Frame.{framed, frameOf, ends}
 use Rattle.requests.specs.declared.Slot.{Slot}
@@ -18,6 +18,7 @@ use Rattle.rules.specs.Stages.{viewed, headRules}
 use Rattle.session.specs.Session.{Step, Reading, Feed}
 use Rattle.channel.specs.declared.Channel.{Channel}
 use Rattle.channel.specs.declared.Fed.{Fed}
+use Rattle.channel.specs.declared.feed.Piece.{Piece}
 use Rattle.channel.specs.Receiver.{Receiver, slotAt, slotOf, placeOf, lowestFree, target, streamOpen, judge}
 
 abbrev pub receiver : Channel → List ℕ → Receiver
@@ -53,10 +54,6 @@ slotSet s i x = record { dead = s .dead; pending = s .pending; slots = set (s .s
 abbrev pub answerWith : Channel → ℕ → ℕ → ℕ → Fed
 answerWith s number taken written = record { number = number; taken = taken; written = written; channel = s }
 
--- an answer with so many more bytes taken before
-abbrev pub behindWith : ℕ → Fed → Fed
-behindWith n a = record { number = a .number; taken = n + a .taken; written = a .written; channel = a .channel }
-
 -- a byte that refuses its frame
 abbrev pub refusedWith : Channel → ℕ → Fed
 refusedWith s n = record { number = n; taken = 1; written = 0; channel = record { dead = n; pending = 0; slots = s .slots; streams = s .streams } }
@@ -69,10 +66,6 @@ acceptedWith s h i x n = record {
   written = n;
   channel = record { dead = s .dead; pending = 0; slots = set (s .slots) i x; streams = set (s .streams) (h .stream / 2) (not (ends (framed h []))) };
 }
-
--- how many of these bytes can be put before one is judged: up to the eighth of the frame, or up to its last
-unfoldable pub quietCount : ℕ → ℕ → ℕ → ℕ
-quietCount pending size left = cond (ltb pending 8) (min left (7 - pending)) (min left (7 + size - pending))
 
 -- ---- a whole frame in the work area
 
@@ -88,3 +81,52 @@ HasFrame s w = (workArea ≤ length w) × (lengthOf w ≤ maxPayload) × (s .dea
 abbrev pub Passed : Channel → Header → Met → List ℕ → Type 0
 Passed s h m w =
     (workArea ≤ length w) × (lengthOf w ≤ maxPayload) × (s .dead ≡ 0) × (h ≡ headerOf w) × (m ≡ metOf s h) × (firstBroken headRules (framed h []) (viewed m h []) ≡ 0)
+
+-- ---- a piece of the input: the bytes up to the next one that is judged, and that one
+
+-- how many of these bytes can be put before one is judged: up to the eighth of the frame, or up to its last
+unfoldable pub quietCount : ℕ → ℕ → ℕ → ℕ
+quietCount pending size left = cond (ltb pending 8) (min left (7 - pending)) (min left (7 + size - pending))
+
+-- less than eight bytes are pending, or the frame under way is not whole and passed 11
+abbrev pub Held : ℕ → List ℕ → Type 0
+Held pending w = 8 ≤ pending → (lengthOf w ≤ maxPayload) × (pending < 8 + lengthOf w)
+
+-- how a piece ends, how many of its bytes are taken, how many bytes are pending after it, and the work area: it ends with 0 where the next
+-- piece goes on, with 5 or 11, or with 1 where a whole frame is to be judged
+pub record Part : Type 0 where
+  pub number : ℕ
+  pub taken : ℕ
+  pub pending : ℕ
+  pub work : List ℕ
+
+abbrev pub part : ℕ → ℕ → ℕ → List ℕ → Part
+part number taken pending w = record { number = number; taken = taken; pending = pending; work = w }
+
+abbrev pub partWith : Piece → List ℕ → Part
+partWith a w = part (a .number) (a .taken) (a .pending) w
+
+-- a byte that is judged: the last of its frame, or the eighth
+unfoldable pub byteOf : ℕ → List ℕ → ℕ → ℕ → Part
+byteOf pending w b room =
+    cond (eqb (pending - 7) (lengthOf w))
+    (cond (ltb room longestRecord) (part 5 0 pending w) (part 1 1 0 (set w pending b)))
+    (cond (ltb maxPayload (lengthOf w)) (part 11 1 0 (set w pending b)) (part 0 1 8 (set w pending b)))
+
+-- with so many bytes taken before
+abbrev pub later : ℕ → Part → Part
+later n p = part (p .number) (n + p .taken) (p .pending) (p .work)
+
+unfoldable pub pieceOf : ℕ → List ℕ → List ℕ → ℕ → Part
+pieceOf pending w rest room =
+    let q = quietCount pending (lengthOf w) (length rest) in
+    let put = write w pending (take q rest) in
+    cond (eqb q (length rest)) (part 0 q (pending + q) put) (later q (byteOf (pending + q) put (getD rest q 0) room))
+
+-- a state with another count of pending bytes
+abbrev pub pendingSet : Channel → ℕ → Channel
+pendingSet s n = record { dead = s .dead; pending = n; slots = s .slots; streams = s .streams }
+
+-- the state at a call's end: a frame refused for its length makes it dead
+abbrev pub endedWith : ℕ → Channel → Channel
+endedWith number s = record { dead = cond (eqb number 11) 11 (s .dead); pending = s .pending; slots = s .slots; streams = s .streams }

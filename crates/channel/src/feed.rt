@@ -3,84 +3,110 @@ use crate::Channel;
 use crate::Fed;
 ghost use mathlib.Core.Path.{_≡_};
 ghost use mathlib.Core.Bool.{true};
-ghost use mathlib.Core.List.{[], _∷_};
-ghost use Prim.Native.Nat.{suc, _+_, _-_, _≤_, _<_};
-ghost use lib.ListN.{length, take};
+ghost use Prim.Native.Nat.{_≤_, _<_};
+ghost use lib.ListN.{length};
 ghost use Rattle.frame.specs.Header.{lengthOf};
 ghost use Rattle.session.specs.Session.{read};
-ghost use Rattle.channel.specs.Channel.{channel, fedWith, feedOf, heldShape, shape};
-ghost use Rattle.channel.specs.Steps.{receiver, putFrom, behindWith, quietCount};
+ghost use Rattle.channel.specs.Channel.{channel, fedWith, feedOf, shape};
+ghost use Rattle.channel.specs.Steps.{receiver, putFrom, answerWith, quietCount, Held, partWith, byteOf, pieceOf, endedWith};
 
-impl Fed {
-    // The answer with so many more bytes taken before.
-    fn behind(self, n: usize) -> Fed
-        requires { ⌜ n + self .taken < 18446744073709551616 ⌝ }
-        ensures { λ r. ⌜ r ≡ behindWith n self ⌝ }
-    {
-        let mut next = self;
-        next.taken = n + self.taken;
-        next
+// What a piece of the input comes to: how it ends, how many of its bytes are taken, and how many bytes are pending after it. It ends with
+// 0 where the next piece goes on; with 5 before a byte that needs more output; with 11 where the frame is refused for its length; with 1
+// where a whole frame is in the work area, and is to be judged.
+struct Piece {
+    number: u8,
+    taken: usize,
+    pending: usize,
+}
+
+// How many of left bytes can be put before one is judged.
+fn quiet(pending: usize, work: &[u8], left: usize) -> usize
+    requires { ⌜ Held pending (now work) ⌝ }
+    ensures { λ r. ⌜ r ≡ quietCount pending (lengthOf (now (work .entry))) left ⌝ }
+{
+    let mut most = 7;
+    if 8 <= pending {
+        most += frame::payload_length(work);
+    }
+    most -= pending;
+    if left < most {
+        return left;
+    }
+    most
+}
+
+// Takes the eighth byte of a frame, or its last.
+fn take_byte(pending: usize, work: &mut [u8], b: u8, room: usize) -> Piece
+    requires { ⌜ (7 ≤ pending) × (pending < length (now work)) ⌝ }
+    ensures { λ r. ⌜ partWith r (now (work .exit)) ≡ byteOf pending (now (work .entry)) b room ⌝ }
+{
+    let size = frame::payload_length(&work[..]);
+    if pending - 7 == size {
+        if room < 4103 {
+            return Piece {
+                number: 5,
+                taken: 0,
+                pending,
+            };
+        }
+        work[pending] = b;
+        return Piece {
+            number: 1,
+            taken: 1,
+            pending: 0,
+        };
+    }
+    work[pending] = b;
+    if 4096 < size {
+        return Piece {
+            number: 11,
+            taken: 1,
+            pending: 0,
+        };
+    }
+    Piece {
+        number: 0,
+        taken: 1,
+        pending: 8,
+    }
+}
+
+// Takes the bytes up to the next one that is judged, and that one.
+fn take_piece(pending: usize, work: &mut [u8], rest: &[u8], room: usize) -> Piece
+    requires { ⌜ (20488 ≤ length (now work)) × Held pending (now work) ⌝ }
+    ensures { λ r. ⌜ partWith r (now (work .exit)) ≡ pieceOf pending (now (work .entry)) (now (rest .entry)) room ⌝ }
+{
+    let q = quiet(pending, &work[..], rest.len());
+    buffer::put(work, pending, &rest[..q]);
+    let at = pending + q;
+    if q == rest.len() {
+        return Piece {
+            number: 0,
+            taken: q,
+            pending: at,
+        };
+    }
+    let last = take_byte(at, work, rest[q], room);
+    Piece {
+        number: last.number,
+        taken: q + last.taken,
+        pending: last.pending,
     }
 }
 
 impl Channel {
-    // How many of left bytes can be put before one is judged.
-    fn quiet(self, work: &[u8], left: usize) -> usize
-        requires { ⌜ heldShape (receiver self (now work)) ≡ true ⌝ }
-        ensures { λ r. ⌜ r ≡ quietCount (self .pending) (lengthOf (now (work .entry))) left ⌝ }
+    // The answer with this state, which a frame refused for its length makes dead.
+    fn ended(self, number: u8, taken: usize, written: usize) -> Fed
+        ensures { λ r. ⌜ r ≡ answerWith (endedWith number self) number taken written ⌝ }
     {
-        let mut most = 7;
-        if 8 <= self.pending {
-            most += frame::payload_length(work);
-        }
-        most -= self.pending;
-        if left < most {
-            return left;
-        }
-        most
-    }
-
-    // Takes a byte that is judged.
-    fn take_byte(self, work: &mut [u8], b: u8, out: &mut [u8], done: usize) -> Fed
-        requires { ⌜ (20488 ≤ length (now work)) × (self .dead ≡ 0) × (done ≤ length (now out)) × (heldShape (receiver self (now work)) ≡ true) × (quietCount (self .pending) (lengthOf (now work)) 1 ≡ 0) ⌝ }
-        ensures { λ r. ⌜ fedWith r (now (work .exit)) (now (out .exit)) ≡ putFrom (now (out .entry)) done (read channel (receiver self (now (work .entry))) (length (now (out .entry)) - done) (b ∷ [])) ⌝ }
-    {
-        let at = self.pending;
-        let size = frame::payload_length(&work[..]);
-        if at - 7 == size {
-            if out.len() - done < 4103 {
-                return self.answer(5, 0, 0);
-            }
-            work[at] = b;
-            return self.judge(work, out, done);
-        }
-        work[at] = b;
-        if 4096 < size {
-            return self.refused(11);
-        }
         let mut next = self;
-        next.pending = 8;
-        next.answer(0, 1, 0)
-    }
-
-    // Takes the bytes up to the next one that is judged, and that one.
-    fn take_piece(self, work: &mut [u8], rest: &[u8], out: &mut [u8], done: usize) -> Fed
-        requires { ⌜ (20488 ≤ length (now work)) × (self .dead ≡ 0) × (done ≤ length (now out)) × (shape (receiver self (now work)) ≡ true) ⌝ }
-        ensures { λ r. ⌜ fedWith r (now (work .exit)) (now (out .exit)) ≡ putFrom (now (out .entry)) done (read channel (receiver self (now (work .entry))) (length (now (out .entry)) - done) (take (suc (quietCount (self .pending) (lengthOf (now (work .entry))) (length (now (rest .entry))))) (now (rest .entry)))) ⌝ }
-    {
-        let q = self.quiet(&work[..], rest.len());
-        let pending = self.pending;
-        buffer::put(work, pending, &rest[..q]);
-        let mut next = self;
-        next.pending = pending + q;
-        if q == rest.len() {
-            return next.answer(0, q, 0);
+        if number == 11 {
+            next.dead = 11;
         }
-        let last = next.take_byte(work, rest[q], out, done);
-        last.behind(q)
+        next.answer(number, taken, written)
     }
 
-    // Reads the input, piece after piece.
+    // Reads the input, piece after piece. The state is handed over only where a whole frame is judged.
     fn read(self, work: &mut [u8], input: &[u8], out: &mut [u8]) -> Fed
         requires { ⌜ (20488 ≤ length (now work)) × (self .dead ≡ 0) × (shape (receiver self (now work)) ≡ true) ⌝ }
         ensures { λ r. ⌜ fedWith r (now (work .exit)) (now (out .exit)) ≡ putFrom (now (out .entry)) 0 (read channel (receiver self (now (work .entry))) (length (now (out .entry))) (now (input .entry))) ⌝ }
@@ -89,13 +115,19 @@ impl Channel {
         let mut taken = 0;
         let mut written = 0;
         while taken < input.len() {
-            let piece = next.take_piece(work, &input[taken..], out, written);
+            let piece = take_piece(next.pending, work, &input[taken..], out.len() - written);
             taken += piece.taken;
-            written += piece.written;
-            let channel = piece.channel;
-            next = channel;
-            if piece.number != 0 {
-                return next.answer(piece.number, taken, written);
+            next.pending = piece.pending;
+            let mut number = piece.number;
+            if number == 1 {
+                let judged = next.judge(work, out, written);
+                written += judged.written;
+                let channel = judged.channel;
+                next = channel;
+                number = judged.number;
+            }
+            if number != 0 {
+                return next.ended(number, taken, written);
             }
         }
         next.answer(0, taken, written)

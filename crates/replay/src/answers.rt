@@ -3,31 +3,37 @@ use crate::state;
 use channel::Channel;
 
 // The answer to a line that cannot be read.
-pub fn bad(out: &mut [u8]) -> usize {
+pub(crate) fn bad(out: &mut [u8]) -> usize {
     text::put(b"bad", out, 0)
 }
 
 // A word, and a number.
-pub fn numbered(word: &[u8], number: u64, out: &mut [u8]) -> usize {
+pub(crate) fn numbered(word: &[u8], number: u64, out: &mut [u8]) -> usize {
     let a = text::put(word, out, 0);
     text::put_decimal(number, out, a)
 }
 
 // A word, and bytes.
-pub fn shown(word: &[u8], bytes: &[u8], out: &mut [u8]) -> usize {
+pub(crate) fn shown(word: &[u8], bytes: &[u8], out: &mut [u8]) -> usize {
     let a = text::put(word, out, 0);
     put_bytes(bytes, out, a)
 }
 
 // A word, a number, and bytes.
-pub fn found(word: &[u8], number: u64, bytes: &[u8], out: &mut [u8]) -> usize {
+pub(crate) fn found(word: &[u8], number: u64, bytes: &[u8], out: &mut [u8]) -> usize {
     let a = numbered(word, number, out);
     let b = text::put(b" ", out, a);
     put_bytes(bytes, out, b)
 }
 
 // What feed answered, and the records that it wrote.
-pub fn fed(number: u8, taken: usize, written: usize, records: &[u8], out: &mut [u8]) -> usize {
+pub(crate) fn fed(
+    number: u8,
+    taken: usize,
+    written: usize,
+    records: &[u8],
+    out: &mut [u8],
+) -> usize {
     let a = numbered(b"fed ", number as u64, out);
     let b = text::put(b" ", out, a);
     let c = text::put_decimal(taken as u64, out, b);
@@ -38,7 +44,7 @@ pub fn fed(number: u8, taken: usize, written: usize, records: &[u8], out: &mut [
 }
 
 // An argument as an integer.
-pub fn integer(number: u64, value: i64, out: &mut [u8]) -> usize {
+pub(crate) fn integer(number: u64, value: i64, out: &mut [u8]) -> usize {
     let a = numbered(b"integer ", number, out);
     let b = text::put(b" ", out, a);
     if value < 0 {
@@ -48,7 +54,7 @@ pub fn integer(number: u64, value: i64, out: &mut [u8]) -> usize {
 }
 
 // The whole state.
-pub fn state_of(channel: Channel, out: &mut [u8]) -> usize {
+pub(crate) fn state_of(channel: Channel, out: &mut [u8]) -> usize {
     let a = text::put(b"state ", out, 0);
     state::put(channel, out, a)
 }

@@ -11,31 +11,31 @@ ghost use Rattle.replay.specs.Sum.{adlerOf};
 
 // The buffers that are lent to a request: the work area, of which a part is lent to the channel, the output of feed, the bytes that a line
 // spells in hex, and the answer.
-pub type Work = [u8; 100000];
+pub(crate) type Work = [u8; 100000];
 
-pub type Output = [u8; 100000];
+pub(crate) type Output = [u8; 100000];
 
-pub type Bytes = [u8; 150000];
+pub(crate) type Bytes = [u8; 150000];
 
-pub type Answer = [u8; 400000];
+pub(crate) type Answer = [u8; 400000];
 
 // What stays between lines: the channel's state, the length of the work area that is lent to it, and of the last feed the length of its
 // output and how much of that it wrote.
-pub struct State {
-    pub channel: Channel,
-    pub size: usize,
-    pub asked: usize,
-    pub written: usize,
+pub(crate) struct State {
+    pub(crate) channel: Channel,
+    pub(crate) size: usize,
+    pub(crate) asked: usize,
+    pub(crate) written: usize,
 }
 
 // What a request leaves: the state, and the length of its answer.
-pub struct Ran {
-    pub state: State,
-    pub length: usize,
+pub(crate) struct Ran {
+    pub(crate) state: State,
+    pub(crate) length: usize,
 }
 
 // Before the first line: a fresh state, and a work area of the least length that feed takes.
-pub fn first(work: &mut [u8]) -> State {
+pub(crate) fn first(work: &mut [u8]) -> State {
     fill(work, 20488, 0);
     State {
         channel: Channel::fresh(),
@@ -46,7 +46,7 @@ pub fn first(work: &mut [u8]) -> State {
 }
 
 // What a line asks for, by its first word.
-pub enum Request {
+pub(crate) enum Request {
     Fresh,
     Set,
     Feed,
@@ -64,7 +64,7 @@ pub enum Request {
 }
 
 // Does what a line asks.
-pub fn run(
+pub(crate) fn run(
     state: State,
     line: &[u8],
     bytes: &mut Bytes,

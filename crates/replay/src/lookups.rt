@@ -6,7 +6,7 @@ use crate::calls::Request;
 use words::Number;
 
 // Does what a line asks of a command.
-pub fn run(request: Request, line: &[u8], bytes: &mut Bytes, answer: &mut Answer) -> usize {
+pub(crate) fn run(request: Request, line: &[u8], bytes: &mut Bytes, answer: &mut Answer) -> usize {
     match request {
         Request::Check => check(line, bytes, answer),
         Request::Name => name(line, bytes, answer),

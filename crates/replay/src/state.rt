@@ -6,9 +6,9 @@ use words::Number;
 ghost use Prim.Native.Nat.{_≤_, _<_};
 
 // A state that was read; where none was, the fresh one stands in its place.
-pub struct StateRead {
-    pub is_read: bool,
-    pub channel: Channel,
+pub(crate) struct StateRead {
+    pub(crate) is_read: bool,
+    pub(crate) channel: Channel,
 }
 
 enum SlotRead {
@@ -32,7 +32,7 @@ struct StreamsRead {
 }
 
 // The state that the words of a line spell behind its first one.
-pub fn read(line: &[u8]) -> StateRead {
+pub(crate) fn read(line: &[u8]) -> StateRead {
     if words::count(line, b' ') != 12 {
         return unread();
     }
@@ -190,7 +190,7 @@ fn stream_after(last: usize, word: &[u8]) -> usize
 }
 
 // Puts a state's text, and answers the place after it.
-pub fn put(channel: Channel, out: &mut [u8], at: usize) -> usize {
+pub(crate) fn put(channel: Channel, out: &mut [u8], at: usize) -> usize {
     let a = text::put_decimal(channel.dead as u64, out, at);
     let b = text::put(b" ", out, a);
     let c = text::put_decimal(channel.pending as u64, out, b);
