@@ -39,9 +39,7 @@ cat crates/receive/stdin | "$receive" | cmp - crates/receive/stdout
 
 # Captures of any bytes, and lines of any bytes.
 "$out/programs" captures "$receive" 1 "$captures"
-wrong_copy notation capture.rs 's/258(\[{}\])/[{}]/'
-rust_program tests/programs.rs "$copy/programs" "$copy"
-must_fail 'and not$' "$copy/programs" captures "$receive" 1 "$captures"
+must_fail 'and not$' "$wrong_notation/programs" captures "$receive" 1 "$captures"
 answered=0
 "$out/programs" garbled 1 "$garbled" >"$out/lines"
 compare_lines "$out/lines" "$out/second_replay"

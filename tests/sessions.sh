@@ -1,8 +1,5 @@
 # Sessions and commands as lines: the program `replay` against the second
-# program, and the second receiver against the uncut reading.
-
-rust_program tests/sessions.rs "$out/sessions" "$out"
-rust_program tests/second_replay.rs "$out/second_replay" "$out"
+# program.
 
 # Has the lines of file $1 answered by `replay` and by the second program $2, and
 # compares the answers. Adds their count to `answered`.
@@ -30,24 +27,12 @@ compare_sessions() {
 
 answered=0
 compare_sessions 1 1
-"$out/sessions" traces
-"$out/sessions" check 1 "$sessions"
+for copy in "${wrong_receivers[@]}"; do
+    must_fail '^replay differs' compare_lines "$out/lines" "$copy/second_replay"
+done
 "$out/sessions" commands 1 "$commands" >"$out/lines"
 compare_lines "$out/lines" "$out/second_replay"
 echo "tests: $sessions sessions and $commands commands, $answered answers of replay, each as the second program's"
-
-# A wrong receiver breaks demand 3 or a trace, and differs from `replay`.
-wrong_receiver() {
-    wrong_copy "$1" receiver.rs "$2" 1
-    rust_program tests/sessions.rs "$copy/sessions" "$copy"
-    rust_program tests/second_replay.rs "$copy/second_replay" "$copy"
-    must_fail '^sessions: ' "$copy/sessions" check 1 "$sessions"
-    must_fail '^replay differs' compare_lines "$out/lines" "$copy/second_replay"
-}
-"$out/sessions" make 1 "$sessions" >"$out/lines"
-wrong_receiver empty_is_last 's/if frame\.flags() == LAST_DATA {/if frame.payload().is_empty() {/'
-wrong_receiver end_ignored 's/is_some_and(|frame| !frame\.ends())/is_some()/'
-must_fail '^sessions: ' "$out/sessions" check 1 3
 
 if [ "$long" -eq 1 ]; then
     answered=0

@@ -1,0 +1,54 @@
+# The second implementation by itself, which needs nothing of Rattle: its own
+# tests, the papers' traces, demand 3, and wrong copies for the comparisons.
+
+rust --test -C opt-level=1 -o "$out/second_unit" tests/second/src/lib.rs
+"$out/second_unit" --quiet
+rust -C opt-level=3 --crate-type rlib --crate-name generate --out-dir "$out" tests/generate/src/lib.rs
+rust -C opt-level=3 --crate-type rlib --crate-name second --out-dir "$out" tests/second/src/lib.rs
+
+rust_program tests/sessions.rs "$out/sessions" "$out"
+rust_program tests/second_replay.rs "$out/second_replay" "$out"
+"$out/sessions" traces
+"$out/sessions" check 1 "$sessions"
+must_fail '^sessions: ' "$out/sessions" check 1 3
+
+# A wrong receiver breaks demand 3 or a trace.
+wrong_receiver() {
+    wrong_copy "$1" receiver.rs "$2" 1
+    rust_program tests/sessions.rs "$copy/sessions" "$copy"
+    rust_program tests/second_replay.rs "$copy/second_replay" "$copy"
+    must_fail '^sessions: ' "$copy/sessions" check 1 "$sessions"
+    wrong_receivers+=("$copy")
+}
+wrong_receivers=()
+wrong_receiver empty_is_last 's/if frame\.flags() == LAST_DATA {/if frame.payload().is_empty() {/'
+wrong_receiver end_ignored 's/is_some_and(|frame| !frame\.ends())/is_some()/'
+
+# Wrong readers of commands, and one that writes captures wrongly.
+wrong_reader() {
+    wrong_copy "$@"
+    wrong_readers+=("$copy")
+}
+wrong_readers=()
+wrong_reader nine_levels value.rs 's/LEVELS: usize = 8/LEVELS: usize = 9/'
+wrong_reader seven_levels value.rs 's/LEVELS: usize = 8/LEVELS: usize = 7/'
+wrong_reader set_without_level value.rs 's/^ *levels\.checked_sub(1)?;$//'
+wrong_reader left_over value.rs 's/reader\.rest\.is_empty()\.then_some(value)/Some(value)/'
+wrong_reader text value.rs 's/ 2 => Some(Value::Bytes/ 2 | 3 => Some(Value::Bytes/'
+wrong_reader other_tag value.rs 's/6 if head\.argument == SET_TAG/6 if head.argument \& 0xff == 2/'
+wrong_reader set_of_map value.rs 's/if head\.major != 4 {/if head.major != 4 \&\& head.major != 5 {/'
+wrong_reader wide_simple value.rs 's/7 => simple(head\.info)/7 => simple(head.argument as u8)/'
+wrong_reader container_key value.rs 's/self\.value(0)/self.value(1)/'
+wrong_reader deeper_double value.rs 's/Some(Value::Map(entries))/if levels < 6 \&\& (1..entries.len()).any(|i| entries[..i].iter().any(|e| e.0 == entries[i].0)) { return None; } &/'
+wrong_reader name_of_65 command.rs 's/(1\.\.=64)/(1..=65)/'
+wrong_reader name_of_0 command.rs 's/(1\.\.=64)/(0..=64)/'
+wrong_reader args_keys command.rs 's/ if is_args(&map)//'
+wrong_reader redirect_no_map command.rs 's/(Value::Bytes(b"redirect"), Value::Map(_))/(Value::Bytes(b"redirect"), _)/'
+wrong_reader double_first command.rs 's/let command = shape/if double { return Err(Refusal::DoubleKey); } &/'
+wrong_reader outer_double command.rs 's/if double || /if /'
+wrong_reader args_double command.rs 's/ || has_double_key(&command\.args)//'
+wrong_reader negative command.rs 's/-1 - n/-n/'
+wrong_reader range command.rs 's/i64::try_from(n)\.map_err(|_| Refusal::OutOfRange)?/n as i64/'
+wrong_copy notation capture.rs 's/258(\[{}\])/[{}]/'
+rust_program tests/programs.rs "$copy/programs" "$copy"
+wrong_notation=$copy
