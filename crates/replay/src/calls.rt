@@ -36,7 +36,7 @@ pub(crate) struct Ran {
 
 // Before the first line: a fresh state, and a work area of the least length that feed takes.
 pub(crate) fn first(work: &mut [u8]) -> State {
-    fill(work, 20488, 0);
+    fill(work, 20488, 0, 7);
     State {
         channel: Channel::fresh(),
         size: 20488,
@@ -176,7 +176,7 @@ fn fresh(state: State, line: &[u8], work: &mut [u8], answer: &mut [u8]) -> Ran {
     if 255 < seed {
         return refused(state, answer);
     }
-    fill(work, size, seed);
+    fill(work, size, seed, 7);
     let mut next = state;
     next.channel = Channel::fresh();
     next.size = size;
@@ -198,18 +198,18 @@ fn seed_of(line: &[u8]) -> Number {
     Number::No
 }
 
-// Byte i of the first `size` bytes becomes 7 * i + seed, without what is above a byte.
-fn fill(work: &mut [u8], size: usize, seed: usize)
-    requires { ⌜ seed ≤ 255 ⌝ }
+// Byte i of the first `size` bytes becomes step * i + first, without what is above a byte.
+fn fill(bytes: &mut [u8], size: usize, first: usize, step: usize)
+    requires { ⌜ (first ≤ 255) × (step ≤ 255) ⌝ }
 {
-    let mut b = seed;
+    let mut b = first;
     let mut i: usize = 0;
     while i < size {
-        if work.len() <= i {
+        if bytes.len() <= i {
             return;
         }
-        work[i] = b as u8;
-        b = (b + 7) % 256;
+        bytes[i] = b as u8;
+        b = (b + step) % 256;
         i += 1;
     }
 }
@@ -273,7 +273,8 @@ fn feed(
 
 // Feeds the channel, with an output that is filled with A5 first.
 fn feed_all(state: State, input: &[u8], work: &mut [u8], out: &mut [u8]) -> Fed {
-    mark(out);
+    let room = out.len();
+    fill(out, room, 0xA5, 0);
     let size = least(state.size, work.len());
     let channel = state.channel;
     channel.feed(&mut work[..size], input, out)
@@ -283,15 +284,6 @@ fn least(a: usize, b: usize) -> usize
     ensures { λ r. ⌜ (r ≤ a) × (r ≤ b) ⌝ }
 {
     if a < b { a } else { b }
-}
-
-// Fills an output with A5.
-fn mark(out: &mut [u8]) {
-    let mut i: usize = 0;
-    while i < out.len() {
-        out[i] = 0xA5;
-        i += 1;
-    }
 }
 
 // Whether each byte is A5 still.

@@ -1,4 +1,4 @@
--- `replay::calls::fill` is safe and ends. The loop's invariant: the work area keeps its length, and the next byte is below 256. The measure
+-- `replay::calls::fill` is safe and ends. The loop's invariant: the buffer keeps its length, and the next byte is below 256. The measure
 -- is what is left of the bytes to fill. Assumes nothing.
 use borrow.Author.Needs.{needs}
 use mathlib.Core.Path.{_≡_}
@@ -8,10 +8,10 @@ use Rattle.replay.proofs.calls.fill.Statement.{statement}
 use Rattle.replay.proofs.calls.fill.Tie as tie
 
 abbrev Inv-loop : tie.InvT-loop
-Inv-loop work₀ size seed b₀ i₀ work b i = (i ≤ size) × (b ≤ 255) × (length work ≡ length work₀)
+Inv-loop bytes₀ size first step b₀ i₀ bytes b i = (i ≤ size) × (b ≤ 255) × (length bytes ≡ length bytes₀)
 
 abbrev μ-loop : tie.MeasureT-loop
-μ-loop work₀ size seed b₀ i₀ work b i = size - i
+μ-loop bytes₀ size first step b₀ i₀ bytes b i = size - i
 
 pub fill-spec : {M : Type 1} → statement M
 fill-spec =
