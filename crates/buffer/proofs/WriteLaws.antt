@@ -6,7 +6,7 @@ use mathlib.Core.Path.{_≡_, refl, sym, ap, _∙_}
 use mathlib.Core.Logic.{_⊎_, inl, inr}
 use mathlib.Core.List.{List, [], _∷_, _++_}
 use native.Mathlib.Omega.{arith}
-use lib.ListN.{length, take, drop, set, length-take, length-drop, take-append-drop}
+use lib.ListN.{length, take, drop, getD, set, length-take, length-drop, take-append-drop}
 use lib.Seq.{paste, take-nil, take-take, take-append-le, drop-append-le, take-length, length-take-le, take-paste, drop-paste, drop-drop}
 use borrow.Rule.Slice.PartMut.{midOf, putMid}
 use Rattle.buffer.specs.Bytes.{write}
@@ -128,12 +128,42 @@ other-part w p n at new h (inr l) =
     ∙ drop-drop d (at + length new) w
     ∙ ap (λ (k : ℕ). drop k w) e)
 
+-- a place that no byte is put at
+pub getD-apart : (w : List ℕ) (i : ℕ) (s : List ℕ) (j : ℕ) → (i ≤ j → j < i + length s → ⊥) → getD (write w i s) j 0 ≡ getD w j 0
+unfolding write
+getD-apart [] i s j h = refl
+getD-apart (x ∷ xs) (suc i) s zero h = refl
+getD-apart (x ∷ xs) (suc i) s (suc j) h = getD-apart xs i s j (λ a b. h (omega arith) (omega arith))
+getD-apart (x ∷ xs) zero [] j h = refl
+getD-apart (x ∷ xs) zero (b ∷ bs) zero h = absurd (h (omega arith) (omega arith))
+getD-apart (x ∷ xs) zero (b ∷ bs) (suc j) h = getD-apart xs zero bs j (λ a c. h (omega arith) (omega arith))
+
+-- what stands behind the bytes that are put
+pub drop-past : (w : List ℕ) (i : ℕ) (s : List ℕ) (k : ℕ) → i + length s ≤ k → drop k (write w i s) ≡ drop k w
+unfolding write
+drop-past [] i s k h = refl
+drop-past (x ∷ xs) (suc i) s zero h = absurd (none h)
+  where
+    none : suc i + length s ≤ 0 → ⊥
+    none l = omega arith
+drop-past (x ∷ xs) (suc i) s (suc k) h = drop-past xs i s k (omega arith)
+drop-past (x ∷ xs) zero [] k h = refl
+drop-past (x ∷ xs) zero (b ∷ bs) zero h = absurd (none h)
+  where
+    none : 0 + suc (length bs) ≤ 0 → ⊥
+    none l = omega arith
+drop-past (x ∷ xs) zero (b ∷ bs) (suc k) h = drop-past xs zero bs k (omega arith)
+
 -- nothing is put
 pub write-none : (w : List ℕ) (i : ℕ) → write w i [] ≡ w
 unfolding write
 write-none [] i = refl
 write-none (x ∷ xs) zero = refl
 write-none (x ∷ xs) (suc i) = ap (λ (l : List ℕ). x ∷ l) (write-none xs i)
+
+-- a single byte
+pub set-write : (w : List ℕ) (i b : ℕ) → set w i b ≡ write w i (b ∷ [])
+set-write w i b = sym (write-set w i b [] ∙ write-none (set w i b) (suc i))
 
 -- bytes that are put behind a first part
 pub write-skip : (p q : List ℕ) (i : ℕ) (s : List ℕ) → write (p ++ q) (length p + i) s ≡ p ++ write q i s

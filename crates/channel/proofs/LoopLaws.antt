@@ -15,14 +15,14 @@ use Rattle.session.proofs.Pieces.{read-on, read-stops, read-all, read-within, r
 use Rattle.channel.specs.Receiver.{Receiver}
 use Rattle.channel.specs.Channel.{channel}
 use Rattle.channel.specs.Steps.{putFrom}
-use Rattle.channel.proofs.ReceiverLaws.{Ok, take-ok, quiet, keeps}
+use Rattle.channel.proofs.ReceiverLaws.{Ok, keeps}
 
 -- a feed's output: its records stand at the front
 pub feeds-all : (r : Receiver) (input out : List ℕ) → Ok r → putFrom out 0 (read channel r (length out) input) ≡ wrote channel out (read channel r (length out) input)
 unfolding wrote
 feeds-all r input out k =
     let recs : List ℕ = read channel r (length out) input .records in
-    let l : length recs ≤ length out = read-fits channel keeps quiet (λ q b o. take-ok q b o .1) r (length out) input k in
+    let l : length recs ≤ length out = read-fits channel keeps r (length out) input k in
     ap (λ (o : List ℕ). record { number = read channel r (length out) input .number; taken = read channel r (length out) input .taken; written = length recs; next = read channel r (length out) input .next; output = o })
     (write-paste out 0 recs (omega arith) ∙ rw (take-length recs, zero-add (length recs)))
 
@@ -88,7 +88,7 @@ module _ (r₀ : Receiver) (out₀ input : List ℕ) where
 
       pub piece-fits : written + length (piece .records) ≤ length out₀
       piece-fits =
-          omega (arith, so .fits, same-length, read-fits channel keeps quiet (λ q b o. take-ok q b o .1) r (length out - written) (take k rest) (so .ok))
+          omega (arith, so .fits, same-length, read-fits channel keeps r (length out - written) (take k rest) (so .ok))
 
       -- the records so far and those of the piece
       all : take (written + length (piece .records)) (write out written (piece .records)) ≡ take written out ++ piece .records

@@ -17,7 +17,8 @@ use Rattle.frame.specs.Frame.{Frame, frameOf, isEven, isType, isNew, isMore, da
 use Rattle.frame.specs.Header.{lengthOf}
 use Rattle.frame.specs.Records.{recordOf, two, bit}
 use Rattle.session.specs.Session.{Step}
-use Rattle.session.proofs.Laws.{not-zero, Keeps}
+use Rattle.session.specs.Demand3.{Keeps}
+use Rattle.session.proofs.Laws.{not-zero}
 use Rattle.channel.specs.Receiver.{Receiver, slotAt, placeOf, slotOf, lowestFree, target, commandLength, placed, command, refused, refusedWork, commandSlot, slotsAfter, accepted, judge, put, isWhole, tooLong, counted, takeByte, freed, finishState, finish, viewOf}
 use Rattle.requests.specs.Slots.{inPhase, isId, slotFits, idIn, slotsFit, enter, dataSlot}
 use Rattle.requests.specs.Phases.{freeSlot, isPhase, code}
@@ -424,4 +425,6 @@ keeps = record {
   plain = ok-plain;
   byte = λ r b k. take-ok r b k .0;
   call = finish-ok;
+  quiet = quiet;
+  bound = λ r b k. take-ok r b k .1;
 }

@@ -264,7 +264,7 @@ demand2 w l es q =
 
 pub demand2-session : Demand2Session
 demand2-session w l cs q =
-    subst (λ (o : Outcome Receiver). Agree o (told nothing (events channel (freshOn w) cs))) (sym (Laws.demand3 channel keeps (freshOn w) (fresh-ok w l) cs))
+    subst (λ (o : Outcome Receiver). Agree o (told nothing (events channel (freshOn w) cs))) (sym (Laws.session-uncut channel keeps (freshOn w) (fresh-ok w l) cs))
     (demand2 w l (events channel (freshOn w) cs) (fed-sent cs (freshOn w) q))
 
 pub next-frame : NextFrame

@@ -3,6 +3,7 @@ pub mod Demand3
 pub mod PlaceLaws
 pub mod SeenLaws
 pub mod Refusal
+pub mod Written
 pub mod CountLaws
 pub mod HistoryLaws
 pub mod CutLaws

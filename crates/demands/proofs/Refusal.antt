@@ -15,8 +15,9 @@ use Rattle.channel.specs.declared.Channel.{Channel}
 use Rattle.channel.specs.Receiver.{Receiver, slotAt, placeOf, slotOf, lowestFree, target, placed, viewOf, refused, refusedWork, accepted, judge, put, isWhole, tooLong, counted, takeByte}
 use Rattle.demands.specs.Demands.{Refused, AfterRefusal}
 use Rattle.channel.proofs.SlotLaws.{each-fits}
-use Rattle.channel.proofs.ReceiverLaws.{ok-start, take-live}
+use Rattle.channel.proofs.ReceiverLaws.{take-live}
 use Rattle.channel.proofs.JudgeLaws.{is-left, is-placed}
+use Rattle.demands.proofs.Demand3.{ok}
 use Rattle.demands.proofs.SeenLaws.{free-empty, lowest-is-free}
 
 module _ (s : Channel) (f : Frame) (w : List ℕ) where
@@ -82,4 +83,4 @@ module _ (r : Receiver) (b n : ℕ) (fit : slotsFit (r .state .slots) ≡ true) 
       long false a = done (isWhole p) a refl
 
 pub after-refusal : AfterRefusal
-after-refusal r k d b n e o = taken r b n (ok-start r (k .roomy) (k .slots) (k .shaped) .slots) d o e
+after-refusal r k d b n e o = taken r b n (ok r k .slots) d o e

@@ -1,18 +1,20 @@
--- What is claimed of the channel: a reader starts here. `Demand3` and the claims beside it are proved in proofs/Demand3.antt, `Demand2` and
--- those beside it in proofs/Demand2.antt. These are definitions: they assume nothing.
+-- What is claimed of the channel: a reader starts here. Demand 3 and the claims below it are proved in proofs/Demand3.antt, what is
+-- written in proofs/Written.antt, demand 2 in proofs/Demand2.antt, what a refusal leaves in proofs/Refusal.antt, each claim under its name.
+-- These are definitions: they assume nothing.
 use Prim.Native.Nat.{ℕ, _+_, _≤_, _<_}
 use mathlib.Core.Path.{_≡_}
-use mathlib.Core.Bool.{true, false}
+use mathlib.Core.Bool.{Bool, true, false, cond, _&&_, _||_}
 use mathlib.Core.List.{List, [], _∷_, _++_}
-use lib.ListN.{length, getD, take}
-use lib.Dec.{leb}
+use lib.ListN.{length, getD, drop}
+use lib.Dec.{leb, eqb}
 use Rattle.buffer.specs.Bytes.{write}
-use Rattle.frame.specs.Limits.{slotCount, longestRecord, workArea, partStart}
-use Rattle.frame.specs.Frame.{frameOf, isNew}
-use Rattle.session.specs.Session.{Call, feeds, owns, Event, Outcome, uncut, session, events, feed}
-use Rattle.session.specs.Counts.{Counted, recordsOf}
-use Rattle.channel.specs.Receiver.{Receiver, freshState, slotOf, placeOf, lowestFree, put, takeByte}
-use Rattle.channel.specs.Channel.{shape, channel}
+use Rattle.frame.specs.Limits.{maxCommand, slotCount, longestRecord, workArea, partStart}
+use Rattle.frame.specs.Frame.{Frame, frameOf, isNew}
+use Rattle.session.specs.Session.{Call, feeds, owns, Event, Outcome, own, uncut, session, events}
+use Rattle.session.specs.Demand3.{Whole}
+use Rattle.rules.specs.Rules.{isCommand}
+use Rattle.channel.specs.Receiver.{Receiver, freshState, slotAt, slotOf, placeOf, lowestFree, target, commandLength, placed, put, isWhole, takeByte}
+use Rattle.channel.specs.Channel.{shape, channel, finishOf}
 use Rattle.demands.specs.History.{Past, nothing, told, Sent, isAll, refusalOf, given}
 
 -- ---- demand 3
@@ -23,30 +25,55 @@ pub record Sound (r : Receiver) : Type 0 where
   pub slots : length (r .state .slots) ≡ slotCount
   pub shaped : shape r ≡ true
 
--- From any sound receiver, a dead one too, every list of calls comes to what the plain receiver comes to on the bytes taken and the
--- finishes at their places: the same state, every byte of the work area, the joined records and the answers.
+-- From any sound receiver, a dead one too, and for every list of calls: it comes to what the plain receiver comes to on the bytes taken and
+-- the finishes at their places, with the same state, every byte of the work area, the joined records and the answers; and each call, at its
+-- place, answers and leaves what document 01 defines.
 abbrev pub Demand3 : Type 0
-Demand3 = (r : Receiver) → Sound r → (cs : List Call) → session channel r cs ≡ uncut channel r (events channel r cs)
+Demand3 = (r : Receiver) → Sound r → (cs : List Call) → Whole channel r cs
 
--- 2 and 3 do not arise later in a session
+-- 2 and 3 do not arise later: not in the uncut reading, and so not in a session, which comes to the same receiver
 abbrev pub StaysSound : Type 0
-StaysSound = (r : Receiver) → Sound r → (cs : List Call) → Sound (session channel r cs .end)
+StaysSound = (r : Receiver) → Sound r → (es : List Event) → Sound (uncut channel r es .end)
 
--- a feed that passes the checks, with some input, takes a byte
-abbrev pub Progress : Type 0
-Progress = (r : Receiver) (b : ℕ) (bs out : List ℕ) → Sound r → r .state .dead ≡ 0 → longestRecord ≤ length out → 1 ≤ feed channel r (b ∷ bs) out .taken
+-- The session's call of the owner is what `Channel::finish` promises of the state; it leaves every byte of the work area, the freed part's too.
+abbrev pub OwnFinish : Type 0
+OwnFinish =
+    (r : Receiver) (id : ℕ)
+    → own channel r id ≡ record { next = record { state = finishOf (r .state) id .next; work = r .work }; number = finishOf (r .state) id .number }
 
--- the output keeps its length
-abbrev pub KeepsLength : Type 0
-KeepsLength = (r : Receiver) (input out : List ℕ) → Sound r → length (feed channel r input out .output) ≡ length out
+-- no record is longer than the longest
+abbrev pub RecordsFit : Type 0
+RecordsFit = (r : Receiver) → Sound r → (b : ℕ) → length (takeByte r b .adds) ≤ longestRecord
 
--- a feed that passes the checks has the number and the taken count that document 01's sentences define, and writes the records of the
--- bytes that it takes
-abbrev pub CountsHold : Type 0
-CountsHold =
-    (r : Receiver) (input out : List ℕ) → Sound r → r .state .dead ≡ 0 → longestRecord ≤ length out
-    → Counted channel r (length out) input (feed channel r input out .number) (feed channel r input out .taken)
-    × (feed channel r input out .written ≡ length (recordsOf channel r (take (feed channel r input out .taken) input)))
+-- ---- what is written
+
+-- the frame under way with a byte, and where its payload goes in its slot's part: behind the bytes that the part holds
+abbrev pub frameWith : Receiver → ℕ → Frame
+frameWith r b = frameOf (put r b .work)
+
+abbrev pub payloadAt : Receiver → ℕ → ℕ
+payloadAt r b = let k = target (r .state) (frameWith r b) in partStart k + slotAt (r .state) k .length
+
+-- the byte completes a command frame that is accepted, or refused with 24, 25 or 26
+unfoldable pub fills : Receiver → ℕ → Bool
+fills r b = let n = takeByte r b .next .state .dead in isWhole (put r b) && isCommand (frameWith r b) && (eqb n 0 || leb 24 n && leb n 26)
+
+-- A live receiver after a byte: the byte is in the place that the pending count names; where it fills, the frame's payload is in its slot's
+-- part, in which it has room; every other byte of the work area is as it was.
+pub record Written (r : Receiver) (b : ℕ) (q : Receiver) : Type 0 where
+  pub work : q .work ≡ cond (fills r b) (placed (r .state) (frameWith r b) (put r b .work)) (put r b .work)
+  pub inside : fills r b ≡ true → (target (r .state) (frameWith r b) < slotCount) × (commandLength (r .state) (frameWith r b) ≤ maxCommand)
+  pub elsewhere : (i : ℕ) → (i ≡ r .state .pending → ⊥) → (fills r b ≡ true → payloadAt r b ≤ i → i < payloadAt r b + length (frameWith r b .payload) → ⊥)
+      → getD (q .work) i 0 ≡ getD (r .work) i 0
+
+abbrev pub ByteWrites : Type 0
+ByteWrites = (r : Receiver) → Sound r → r .state .dead ≡ 0 → (b : ℕ) → Written r b (takeByte r b .next)
+
+-- in no session does a byte past the 20,488 change, or the work area's length
+abbrev pub PastKept : Type 0
+PastKept =
+    (r : Receiver) → Sound r → (cs : List Call) → let q = session channel r cs .end in
+    (drop workArea (q .work) ≡ drop workArea (r .work)) × (length (q .work) ≡ length (r .work))
 
 -- ---- demand 2
 

@@ -1,7 +1,8 @@
--- Document 01's traces T1 to T12 as one table. A row has calls from a start, the numbers that they answer and the joined records; or a
--- command and a key, with the check's number, the number of the argument as an integer, and its value. proofs/Traces.antt proves it.
--- These are definitions: they assume nothing.
+-- Document 01's traces T1 to T12 as one table. A row has calls from a start, the numbers that they answer, the taken count of each feed and
+-- the joined records; or a command and a key, with the check's number, the number of the argument as an integer, and its value.
+-- proofs/Traces.antt proves it. These are definitions: they assume nothing.
 use Prim.Native.Nat.{ℕ, _+_, _-_, _^_}
+use mathlib.Core.Path.{_≡_}
 use mathlib.Core.Bool.{true, false}
 use mathlib.Core.List.{List, [], _∷_, _++_, map}
 use lib.ListN.{take, drop, replicate}
@@ -45,17 +46,21 @@ callOf (ends id) = owns id
 
 pub record Result : Type 0 where
   pub numbers : List ℕ
+  pub taken : List ℕ
   pub records : List ℕ
   pub value : ℤ
 
-unfoldable pub answers : ℕ → List ℕ → Result → Result
-answers n new rest = record { numbers = n ∷ rest .numbers; records = new ++ rest .records; value = rest .value }
+unfoldable pub afterFeed : ℕ → ℕ → List ℕ → Result → Result
+afterFeed n k new rest = record { numbers = n ∷ rest .numbers; taken = k ∷ rest .taken; records = new ++ rest .records; value = rest .value }
 
--- the number that each call answers, in order, and the joined records
+unfoldable pub afterFinish : ℕ → Result → Result
+afterFinish n rest = record { numbers = n ∷ rest .numbers; taken = rest .taken; records = rest .records; value = rest .value }
+
+-- the number that each call answers and the taken count of each feed, in order, and the joined records
 unfoldable pub ran : Receiver → List Call → Result
-ran r [] = record { numbers = []; records = []; value = pos 0 }
-ran r (feeds input out ∷ cs) = let f = feed channel r input out in answers (f .number) (take (f .written) (f .output)) (ran (f .next) cs)
-ran r (owns id ∷ cs) = let a = own channel r id in answers (a .number) [] (ran (a .next) cs)
+ran r [] = record { numbers = []; taken = []; records = []; value = pos 0 }
+ran r (feeds input out ∷ cs) = let f = feed channel r input out in afterFeed (f .number) (f .taken) (take (f .written) (f .output)) (ran (f .next) cs)
+ran r (owns id ∷ cs) = let a = own channel r id in afterFinish (a .number) (ran (a .next) cs)
 
 -- lines from a start, or a command's bytes and an argument's key
 pub data Trace : Type 0 where
@@ -66,6 +71,7 @@ unfoldable pub resultOf : Trace → Result
 resultOf (calls s ls) = ran (startOf s) (map callOf ls)
 resultOf (looks c key) = record {
   numbers = checkOf c ∷ numberNumber (integerAt c key) ∷ [];
+  taken = [];
   records = [];
   value = numberValue (integerAt c key);
 }
@@ -74,8 +80,8 @@ pub record Row : Type 0 where
   pub trace : Trace
   pub result : Result
 
-abbrev pub row : Trace → List ℕ → List ℕ → Row
-row t ns rs = record { trace = t; result = record { numbers = ns; records = rs; value = pos 0 } }
+abbrev pub row : Trace → List ℕ → List ℕ → List ℕ → Row
+row t ns ks rs = record { trace = t; result = record { numbers = ns; taken = ks; records = rs; value = pos 0 } }
 
 -- ---- the table
 
@@ -85,6 +91,10 @@ fed input = bytes input (longestRecord + 5000)
 -- length, request id, stream flags, type and flags, on stream 1
 abbrev pub header : ℕ → ℕ → ℕ → ℕ → ℕ → List ℕ
 header low high request streamFlags last = low ∷ high ∷ 0 ∷ request ∷ 0 ∷ 1 ∷ streamFlags ∷ last ∷ []
+
+-- a header as two feeds, the second of its last byte
+abbrev pub eighthAlone : List ℕ → List Line
+eighthAlone l = fed (take 7 l) ∷ fed (drop 7 l) ∷ []
 
 -- a new command with no bytes, and more to follow
 abbrev pub opening : ℕ → ℕ → List ℕ
@@ -96,7 +106,7 @@ withX l = 0xA2 ∷ 0x44 ∷ 0x6E ∷ 0x61 ∷ 0x6D ∷ 0x65 ∷ 0x43 ∷ 0x73 �
 
 -- a look at `x`: the check's number, the integer's number, its value
 abbrev pub look : List ℕ → ℕ → ℕ → ℤ → Row
-look c n m z = record { trace = looks c (0x78 ∷ []); result = record { numbers = n ∷ m ∷ []; records = []; value = z } }
+look c n m z = record { trace = looks c (0x78 ∷ []); result = record { numbers = n ∷ m ∷ []; taken = []; records = []; value = z } }
 
 -- the first 256 bytes of a command of 2,048 bytes, whose one argument is 2,027 bytes long; the other bytes are zeros
 abbrev pub firstPart : List ℕ
@@ -121,23 +131,23 @@ t1Record request = 0x13 ∷ 0 ∷ 1 ∷ 0 ∷ request ∷ 0 ∷ 0 ∷ drop 8 t1
 unfoldable pub table : List Row
 table =
     -- T1, whole and byte by byte
-    row (calls fresh (fed t1 ∷ [])) (0 ∷ []) (t1Record 1)
-    ∷ row (calls fresh (map (λ b. fed (b ∷ [])) t1)) (replicate 24 0) (t1Record 1)
+    row (calls fresh (fed t1 ∷ [])) (0 ∷ []) (24 ∷ []) (t1Record 1)
+    ∷ row (calls fresh (map (λ b. fed (b ∷ [])) t1)) (replicate 24 0) (replicate 24 1) (t1Record 1)
     -- T2
-    ∷ row (calls fresh (fed (9 ∷ 0 ∷ 0 ∷ 1 ∷ 0 ∷ 1 ∷ 1 ∷ 0x92 ∷ 0x48 ∷ 0x69 ∷ 0x64 ∷ 0x65 ∷ 0x6E ∷ 0x74 ∷ 0x69 ∷ 0x74 ∷ 0x79 ∷ []) ∷ [])) (0 ∷ []) []
+    ∷ row (calls fresh (fed (9 ∷ 0 ∷ 0 ∷ 1 ∷ 0 ∷ 1 ∷ 1 ∷ 0x92 ∷ 0x48 ∷ 0x69 ∷ 0x64 ∷ 0x65 ∷ 0x6E ∷ 0x74 ∷ 0x69 ∷ 0x74 ∷ 0x79 ∷ []) ∷ [])) (0 ∷ []) (17 ∷ []) []
     -- T3
-    ∷ row (calls waiting (fed (2 ∷ 0 ∷ 0 ∷ 1 ∷ 0 ∷ 1 ∷ 0 ∷ 0x22 ∷ 0x68 ∷ 0x69 ∷ []) ∷ [])) (0 ∷ []) (5 ∷ 0 ∷ 2 ∷ 0 ∷ 1 ∷ 0 ∷ 1 ∷ 0x68 ∷ 0x69 ∷ [])
-    -- T4, both ways
-    ∷ row (calls fresh (fed (header 0x00 0x10 1 1 0x11) ∷ [])) (0 ∷ []) []
-    ∷ row (calls fresh (fed (header 0x01 0x10 1 1 0x11) ∷ [])) (11 ∷ []) []
+    ∷ row (calls waiting (fed (2 ∷ 0 ∷ 0 ∷ 1 ∷ 0 ∷ 1 ∷ 0 ∷ 0x22 ∷ 0x68 ∷ 0x69 ∷ []) ∷ [])) (0 ∷ []) (10 ∷ []) (5 ∷ 0 ∷ 2 ∷ 0 ∷ 1 ∷ 0 ∷ 1 ∷ 0x68 ∷ 0x69 ∷ [])
+    -- T4, both ways: seven bytes, and then the eighth
+    ∷ row (calls fresh (eighthAlone (header 0x00 0x10 1 1 0x11))) (0 ∷ 0 ∷ []) (7 ∷ 1 ∷ []) []
+    ∷ row (calls fresh (eighthAlone (header 0x01 0x10 1 1 0x11))) (0 ∷ 11 ∷ []) (7 ∷ 1 ∷ []) []
     -- T5
-    ∷ row (calls fresh (fed (take 7 t1 ++ 0x13 ∷ drop 8 t1) ∷ [])) (18 ∷ []) []
+    ∷ row (calls fresh (fed (take 7 t1 ++ 0x13 ∷ drop 8 t1) ∷ [])) (18 ∷ []) (24 ∷ []) []
     -- T6, both ways
-    ∷ row (calls fresh (nine [])) (0 ∷ 0 ∷ 20 ∷ []) (t1Record 15)
-    ∷ row (calls fresh (nine (ends 15 ∷ []))) (0 ∷ 0 ∷ 0 ∷ 0 ∷ []) (t1Record 15)
+    ∷ row (calls fresh (nine [])) (0 ∷ 0 ∷ 20 ∷ []) (56 ∷ 24 ∷ 8 ∷ []) (t1Record 15)
+    ∷ row (calls fresh (nine (ends 15 ∷ []))) (0 ∷ 0 ∷ 0 ∷ 0 ∷ []) (56 ∷ 24 ∷ 8 ∷ []) (t1Record 15)
     -- T7, both ways
-    ∷ row (calls fresh (fed (eight 0) ∷ [])) (0 ∷ []) (3 ∷ 8 ∷ 1 ∷ 0 ∷ 1 ∷ 0 ∷ 0 ∷ firstPart ++ replicate 1792 0)
-    ∷ row (calls fresh (fed (eight 1) ∷ [])) (23 ∷ []) []
+    ∷ row (calls fresh (fed (eight 0) ∷ [])) (0 ∷ []) (2112 ∷ []) (3 ∷ 8 ∷ 1 ∷ 0 ∷ 1 ∷ 0 ∷ 0 ∷ firstPart ++ replicate 1792 0)
+    ∷ row (calls fresh (fed (eight 1) ∷ [])) (23 ∷ []) (2113 ∷ []) []
     -- T8, both ways
     ∷ look (withX (0x3B ∷ 0x7F ∷ 0xFF ∷ 0xFF ∷ 0xFF ∷ 0xFF ∷ 0xFF ∷ 0xFF ∷ 0xFF ∷ [])) 0 0 (negsuc (2 ^ 63 - 1))
     ∷ look (withX (0x3B ∷ 0x80 ∷ 0 ∷ 0 ∷ 0 ∷ 0 ∷ 0 ∷ 0 ∷ 0 ∷ [])) 0 8 (pos 0)
@@ -145,10 +155,14 @@ table =
     ∷ look (withX (0x20 ∷ [])) 0 0 (negsuc 0)
     -- T10, and in the channel
     ∷ look [] 24 24 (pos 0)
-    ∷ row (calls fresh (fed (header 0 0 1 1 0x11) ∷ [])) (24 ∷ []) []
+    ∷ row (calls fresh (fed (header 0 0 1 1 0x11) ∷ [])) (24 ∷ []) (8 ∷ []) []
     -- T11, both ways: the outer map, `args` and six arrays are eight levels; an array is no integer
     ∷ look (withX (0x81 ∷ 0x81 ∷ 0x81 ∷ 0x81 ∷ 0x81 ∷ 0x81 ∷ 0 ∷ [])) 0 7 (pos 0)
     ∷ look (withX (0x81 ∷ 0x81 ∷ 0x81 ∷ 0x81 ∷ 0x81 ∷ 0x81 ∷ 0x80 ∷ [])) 24 24 (pos 0)
     -- T12
-    ∷ row (calls fresh (fed (opening 1 1) ∷ ends 1 ∷ [])) (0 ∷ 4 ∷ []) []
+    ∷ row (calls fresh (fed (opening 1 1) ∷ ends 1 ∷ [])) (0 ∷ 4 ∷ []) (8 ∷ []) []
     ∷ []
+
+-- every row's result is what its trace gives
+abbrev pub TableHolds : Type 0
+TableHolds = map (λ x. resultOf (x .trace)) table ≡ map (λ x. x .result) table

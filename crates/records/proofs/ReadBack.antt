@@ -10,6 +10,6 @@ use Rattle.records.specs.Records.{numberAt, headOf, AllReadBack}
 joined : (n : ℕ) → n < 65536 → n % 256 + 256 * (n / 256 % 256) ≡ n
 joined n h = omega arith
 
-pub read-back : AllReadBack
+pub all-read-back : AllReadBack
 unfolding recordOf numberAt headOf
-read-back kind request third bytes k r = record { head = rw (joined kind k, joined request r); content = refl }
+all-read-back kind request third bytes k r = record { head = rw (joined kind k, joined request r); content = refl }

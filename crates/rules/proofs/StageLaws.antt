@@ -80,3 +80,27 @@ module _ (f : Frame) (v : View) where
   pub all-rest : firstBroken headRules f v ≡ 0 → firstBroken rules f v ≡ firstBroken (drop 12 rules) f v
   unfolding rules
   all-rest e = first-rest f v headRules (drop 12 rules) 12 23 (omega arith) refl e
+
+  -- where no rule is broken, or the first broken one comes later, the first twelve hold
+  pub head-none : (n : ℕ) → firstBroken rules f v ≡ n → (1 ≤ n → 24 ≤ n) → firstBroken headRules f v ≡ 0
+  head-none n e h = go (firstBroken headRules f v) refl
+    where
+      go : (k : ℕ) → firstBroken headRules f v ≡ k → k ≡ 0
+      go zero q = refl
+      go (suc k) q =
+          let (a, b) = all-head (suc k) q (λ z. omega arith) in
+          let same : n ≡ suc k = sym e ∙ a in
+          absurd (omega (arith, h (omega arith)))
+
+  -- only a command frame is refused with 24, 25 or 26
+  pub of-command : (n : ℕ) → firstBroken rules f v ≡ n → 24 ≤ n → n ≤ 26 → isCommand f ≡ true
+  unfolding rules
+  of-command zero e a b = absurd (omega arith)
+  of-command (suc n) e a b = go (isCommand f) refl
+    where
+      go : (t : Bool) → isCommand f ≡ t → t ≡ true
+      go true c = refl
+      go false c =
+          let last : firstBroken lastRules f v ≡ suc n = sym (rest-other c) ∙ sym (all-rest (head-none (suc n) e (λ _. a))) ∙ e in
+          let (x, y) = in-range f v lastRules 27 29 n refl last in
+          absurd (omega arith)

@@ -1,17 +1,17 @@
--- A reading's number, taken count and records are those that `Counts` defines, and no other number and count are.
--- Assumes nothing.
-use Prim.Native.Nat.{ℕ, zero, suc, _+_, _-_, _≤_, _<_}
-use mathlib.Core.Path.{_≡_, refl, sym, ap, _∙_, subst}
+-- A reading's number and taken count are those that `Counts` defines, no other number and count are, and the bytes that it took, read
+-- uncut, come to its receiver and its records. Assumes nothing.
+use Prim.Native.Nat.{ℕ, zero, suc, _+_, _-_, _<_}
+use mathlib.Core.Path.{_≡_, refl, sym, ap, _∙_}
 use mathlib.Core.Bool.{Bool, true, false, _&&_, false≢true}
-use mathlib.Core.List.{List, [], _∷_, _++_, append-nil}
+use mathlib.Core.List.{List, [], _∷_, map, append-nil}
 use native.Mathlib.Nat.{not-suc-le-zero}
 use native.Mathlib.Omega.{arith}
 use lib.ListN.{length, take, length-append}
 use lib.Dec.{ltb}
-use borrow.Author.Tests.{ltb-true, ltb-false, le-ltb}
-use Rattle.session.specs.Session.{Machine, Reading, after, read, wrote, feed}
-use Rattle.session.specs.Counts.{receiverAfter, recordsOf, stopsBefore, deadAfter, Ended, atEnd, short, refused, Counted}
-use Rattle.session.proofs.Laws.{read-short, read-refused, read-more}
+use borrow.Author.Tests.{ltb-true, ltb-false}
+use Rattle.session.specs.Session.{Machine, Outcome, took, after, read, fed, uncut}
+use Rattle.session.specs.Counts.{receiverAfter, recordsOf, stopsBefore, deadAfter, Ended, atEnd, short, refused, Counted, CountedOnce}
+use Rattle.session.proofs.Laws.{read-case, read-uncut}
 
 module _ (m : Machine) where
   -- one byte more in front
@@ -23,19 +23,19 @@ module _ (m : Machine) where
     left = room - length (m .byte r b .adds)
 
     stops-later : (i : ℕ) → stopsBefore m r room (b ∷ bs) (suc i) ≡ stopsBefore m (m .byte r b .next) left bs i
-    unfolding stopsBefore receiverAfter recordsOf
+    unfolding stopsBefore receiverAfter recordsOf uncut fed
     stops-later i = rw (length-append (m .byte r b .adds) (recordsOf m (m .byte r b .next) (take i bs)), room-less room (length (m .byte r b .adds)) _)
 
     dead-later : (i : ℕ) → deadAfter m r room (b ∷ bs) (suc i) ≡ deadAfter m (m .byte r b .next) left bs i
-    unfolding deadAfter receiverAfter
+    unfolding deadAfter receiverAfter uncut fed
     dead-later i = refl
 
     stops-first : stopsBefore m r room (b ∷ bs) 0 ≡ (m .closes r b && ltb room (m .longest))
-    unfolding stopsBefore receiverAfter recordsOf
+    unfolding stopsBefore receiverAfter recordsOf uncut
     stops-first = let e : room - 0 ≡ room = omega arith in rw e
 
     dead-first : deadAfter m r room (b ∷ bs) 1 ≡ m .dead (m .byte r b .next)
-    unfolding deadAfter receiverAfter
+    unfolding deadAfter receiverAfter uncut fed
     dead-first = refl
 
     abbrev C : ℕ → ℕ → Type 0
@@ -91,49 +91,32 @@ module _ (m : Machine) where
       counted-more : C number (suc taken)
       counted-more = record { within = within-more; goesOn = goes-more; lives = lives-more; ended = ended-more (c .ended) }
 
+  counted-none : (r : m .Recv) (room : ℕ) → Counted m r room [] 0 0
+  counted-none r room = record {
+    within = λ i h. absurd (not-suc-le-zero h);
+    goesOn = λ i h. absurd (not-suc-le-zero h);
+    lives = λ i k h. absurd (not-suc-le-zero h);
+    ended = atEnd refl (λ h. absurd (not-suc-le-zero h));
+  }
+
   -- a reading's number and taken count are those defined
   pub read-counted : (r : m .Recv) (room : ℕ) (input : List ℕ) → Counted m r room input (read m r room input .number) (read m r room input .taken)
-  unfolding read after
-  read-counted r room [] = record { within = λ i h. absurd (not-suc-le-zero h); goesOn = λ i h. absurd (not-suc-le-zero h); lives = λ i k h. absurd (not-suc-le-zero h); ended = atEnd refl (λ h. absurd (not-suc-le-zero h)) }
-  read-counted r room (b ∷ bs) =
-      stop (read-counted (m .byte r b .next) (left r room b bs) bs) (m .closes r b && ltb room (m .longest)) refl
-    where
-      K : Reading (m .Recv) → Type 0
-      K g = Counted m r room (b ∷ bs) (g .number) (g .taken)
+  unfolding after
+  read-counted =
+      read-case m (λ r room input g. Counted m r room input (g .number) (g .taken))
+      counted-none
+      counted-short
+      counted-refused
+      (λ r room b bs g e d c. counted-more r room b bs (g .number) (g .taken) e d c)
 
-      rest : Reading (m .Recv)
-      rest = read m (m .byte r b .next) (left r room b bs) bs
-
-      more : Counted m (m .byte r b .next) (left r room b bs) bs (rest .number) (rest .taken) → (d : ℕ) → (m .closes r b && ltb room (m .longest)) ≡ false
-          → m .dead (m .byte r b .next) ≡ d → K (read m r room (b ∷ bs))
-      more ih zero e d = subst K (sym (read-more m r room b bs e d)) (counted-more r room b bs (rest .number) (rest .taken) e d ih)
-      more ih (suc n) e d = subst K (sym (read-refused m r room b bs n e d)) (counted-refused r room b bs n e d)
-
-      stop : Counted m (m .byte r b .next) (left r room b bs) bs (rest .number) (rest .taken) → (t : Bool) → (m .closes r b && ltb room (m .longest)) ≡ t → K (read m r room (b ∷ bs))
-      stop ih true e = subst K (sym (read-short m r room b bs e)) (counted-short r room b bs e)
-      stop ih false e = more ih (m .dead (m .byte r b .next)) e refl
-
-  -- its records are those of the bytes that it took
-  pub read-records : (r : m .Recv) (room : ℕ) (input : List ℕ) → read m r room input .records ≡ recordsOf m r (take (read m r room input .taken) input)
-  unfolding read after recordsOf
-  read-records r room [] = refl
-  read-records r room (b ∷ bs) =
-      stop (read-records (m .byte r b .next) (left r room b bs) bs) (m .closes r b && ltb room (m .longest)) refl
-    where
-      K : Reading (m .Recv) → Type 0
-      K g = g .records ≡ recordsOf m r (take (g .taken) (b ∷ bs))
-
-      rest : Reading (m .Recv)
-      rest = read m (m .byte r b .next) (left r room b bs) bs
-
-      more : rest .records ≡ recordsOf m (m .byte r b .next) (take (rest .taken) bs) → (d : ℕ) → (m .closes r b && ltb room (m .longest)) ≡ false
-          → m .dead (m .byte r b .next) ≡ d → K (read m r room (b ∷ bs))
-      more ih zero e d = subst K (sym (read-more m r room b bs e d)) (ap (λ (l : List ℕ). m .byte r b .adds ++ l) ih)
-      more ih (suc n) e d = subst K (sym (read-refused m r room b bs n e d)) (sym (append-nil (m .byte r b .adds)))
-
-      stop : rest .records ≡ recordsOf m (m .byte r b .next) (take (rest .taken) bs) → (t : Bool) → (m .closes r b && ltb room (m .longest)) ≡ t → K (read m r room (b ∷ bs))
-      stop ih true e = subst K (sym (read-short m r room b bs e)) refl
-      stop ih false e = more ih (m .dead (m .byte r b .next)) e refl
+  -- the bytes that it took, read uncut, come to its receiver and its records
+  pub read-plain : (r : m .Recv) (room : ℕ) (input : List ℕ)
+      → let g = read m r room input in uncut m r (map took (take (g .taken) input)) ≡ record { end = g .next; records = g .records; answers = [] }
+  unfolding uncut fed
+  read-plain r room input =
+      let g = read m r room input in
+      let comes : List ℕ → Outcome (m .Recv) = λ l. record { end = g .next; records = l; answers = [] } in
+      ap (uncut m r) (sym (append-nil (map took (take (g .taken) input)))) ∙ read-uncut m r room input [] ∙ ap comes (append-nil (g .records))
 
   -- and no other number and count are
   module _ (r : m .Recv) (room : ℕ) (input : List ℕ) where
@@ -165,22 +148,10 @@ module _ (m : Machine) where
         by false e true f = absurd (no-later d c (ltb-true u t f))
         by false e false f = omega (arith, ltb-false t u e, ltb-false u t f)
 
-    pub counted-once : (p t q u : ℕ) → Counted m r room input p t → Counted m r room input q u → (p ≡ q) × (t ≡ u)
-    counted-once p t q u c d =
+    once : (p t q u : ℕ) → Counted m r room input p t → Counted m r room input q u → (p ≡ q) × (t ≡ u)
+    once p t q u c d =
         let e = same-count c d in
         (one-number (c .ended) (rw e (d .ended)), e)
 
-  -- a feed that passes the checks is a reading, so its number and counts are those
-  feed-reads : (r : m .Recv) (input out : List ℕ) → m .roomy r ≡ true → m .shaped r ≡ true → m .dead r ≡ 0 → m .longest ≤ length out
-      → feed m r input out ≡ wrote m out (read m r (length out) input)
-  unfolding feed
-  feed-reads r input out a h d l =
-      let e : ltb (length out) (m .longest) ≡ false = le-ltb (length out) (m .longest) l in
-      rw (a, h, d, e, feed)
-
-  pub feed-counted : (r : m .Recv) (input out : List ℕ) → m .roomy r ≡ true → m .shaped r ≡ true → m .dead r ≡ 0 → m .longest ≤ length out
-      → Counted m r (length out) input (feed m r input out .number) (feed m r input out .taken)
-      × (feed m r input out .written ≡ length (recordsOf m r (take (feed m r input out .taken) input)))
-  unfolding wrote
-  feed-counted r input out a h d l =
-      rw (feed-reads r input out a h d l) (read-counted r (length out) input, ap length (read-records r (length out) input))
+pub counted-once : CountedOnce
+counted-once = once

@@ -1,4 +1,4 @@
--- Demand 3 over any receiver: a session comes to what the uncut reading comes to.
+-- Reading and feed, case by case, over any receiver; that the invariant is kept, and that a session comes to what the uncut reading comes to.
 -- Assumes nothing.
 use Prim.Native.Nat.{ℕ, zero, suc, _+_, _-_, _≤_}
 use mathlib.Core.Path.{_≡_, refl, sym, ap, _∙_, subst}
@@ -6,27 +6,15 @@ use mathlib.Core.Bool.{Bool, true, false, _&&_}
 use mathlib.Core.List.{List, [], _∷_, _++_, map, append-assoc}
 use native.Mathlib.Nat.{zero-add}
 use native.Mathlib.Omega.{arith}
-use lib.ListN.{length, take, drop, length-append, length-drop}
+use lib.ListN.{length, take, length-append}
 use lib.Seq.{take-append-seam}
 use lib.Dec.{ltb}
-use borrow.Author.Tests.{ltb-false, le-ltb}
-use Rattle.session.specs.Session.{Machine, Feed, Reading, Outcome, Call, feeds, owns, Event, took, after, read, unchanged, wrote, feed, own, fed, answered, uncut, session, events}
-
-and-false : (a : Bool) → (a && false) ≡ false
-and-false true = refl
-and-false false = refl
+use borrow.Author.Tests.{ltb-false}
+use Rattle.session.specs.Demand3.{Keeps}
+use Rattle.session.specs.Session.{Machine, Feed, Reading, Outcome, Call, feeds, owns, Event, took, asked, after, read, unchanged, wrote, feed, own, fed, answered, uncut, session, events}
 
 pub not-zero : (n : ℕ) → suc n ≡ 0 → ⊥
 not-zero n e = omega arith
-
--- what the theorem asks of a receiver: an invariant that passes the checks 2 and 3 and that bytes and calls keep
-pub record Keeps (m : Machine) : Type 1 where
-  pub Ok : m .Recv → Type 0
-  pub roomy : (r : m .Recv) → Ok r → m .roomy r ≡ true
-  pub shaped : (r : m .Recv) → Ok r → m .shaped r ≡ true
-  pub plain : (r : m .Recv) → Ok r → m .plain r ≡ true
-  pub byte : (r : m .Recv) (b : ℕ) → Ok r → Ok (m .byte r b .next)
-  pub call : (r : m .Recv) (id : ℕ) → Ok r → Ok (m .call r id .next)
 
 module _ (m : Machine) where
   -- ---- reading, case by case
@@ -155,72 +143,10 @@ module _ (m : Machine) where
         (λ r room b bs n e d h. k .byte r b h)
         (λ r room b bs g e d ih h. ih (k .byte r b h))
 
-    pub feed-keeps : (r : m .Recv) (input out : List ℕ) → k .Ok r → k .Ok (feed m r input out .next)
-    unfolding unchanged wrote
-    feed-keeps r input out h = go (feed m r input out) (feed-cases r input out)
-      where
-        go : (f : Feed (m .Recv)) → Fed r input out f → k .Ok (f .next)
-        go f (still n) = h
-        go f reads = read-keeps r (length out) input h
-
-    pub own-is : (r : m .Recv) (id : ℕ) → k .Ok r → own m r id ≡ m .call r id
-    unfolding own
-    own-is r id h = rw (k .plain r h, own)
-
-    -- ---- demand 3
-
-    one-feed : (r : m .Recv) (input out : List ℕ) (cs : List Call) (f : Feed (m .Recv)) → Fed r input out f
-        → session m (f .next) cs ≡ uncut m (f .next) (events m (f .next) cs)
-        → fed (take (f .written) (f .output)) (session m (f .next) cs) ≡ uncut m r (map took (take (f .taken) input) ++ events m (f .next) cs)
-    unfolding unchanged wrote fed
-    one-feed r input out cs f (still n) ih = ih
-    one-feed r input out cs f reads ih =
-        let g : Reading (m .Recv) = read m r (length out) input in
-        ap (λ (l : List ℕ). fed l (session m (g .next) cs)) (take-append-seam (g .records) (drop (length (g .records)) out))
-        ∙ ap (fed (g .records)) ih ∙ sym (read-uncut r (length out) input (events m (g .next) cs))
-
-    pub demand3 : (r : m .Recv) → k .Ok r → (cs : List Call) → session m r cs ≡ uncut m r (events m r cs)
-    unfolding session events uncut
-    demand3 r h [] = refl
-    demand3 r h (feeds input out ∷ cs) =
-        one-feed r input out cs (feed m r input out) (feed-cases r input out) (demand3 (feed m r input out .next) (feed-keeps r input out h) cs)
-    demand3 r h (owns id ∷ cs) =
-        rw (own-is r id h) (ap (answered (m .call r id .number)) (demand3 (m .call r id .next) (k .call r id h) cs))
-
-    -- 2 and 3 never arise later
-    pub session-keeps : (r : m .Recv) → k .Ok r → (cs : List Call) → k .Ok (session m r cs .end)
-    unfolding session fed answered
-    session-keeps r h [] = h
-    session-keeps r h (feeds input out ∷ cs) = session-keeps (feed m r input out .next) (feed-keeps r input out h) cs
-    session-keeps r h (owns id ∷ cs) = session-keeps (own m r id .next) (rw (own-is r id h) (k .call r id h)) cs
-
-  -- ---- progress: a feed that passes the checks, with some input, takes a byte
-
-  pub progress : (r : m .Recv) (b : ℕ) (bs out : List ℕ) → m .roomy r ≡ true → m .shaped r ≡ true → m .dead r ≡ 0 → m .longest ≤ length out
-      → 1 ≤ feed m r (b ∷ bs) out .taken
-  unfolding feed wrote after
-  progress r b bs out a h d l =
-      let e : ltb (length out) (m .longest) ≡ false = le-ltb (length out) (m .longest) l in
-      rw (a, h, d, e, feed) (more (m .dead (m .byte r b .next)) refl)
-    where
-      room : ℕ
-      room = length out
-
-      goes : (m .closes r b && ltb room (m .longest)) ≡ false
-      goes = rw (le-ltb room (m .longest) l) (and-false (m .closes r b))
-
-      more : (n : ℕ) → m .dead (m .byte r b .next) ≡ n → 1 ≤ read m r room (b ∷ bs) .taken
-      more zero e = rw (read-more r room b bs goes e) (omega arith)
-      more (suc n) e = rw (read-refused r room b bs n goes e) (omega arith)
-
-  -- ---- the records fit the output
-
-  module _ (k : Keeps m)
-      (quiet : (r : m .Recv) (b : ℕ) → m .closes r b ≡ false → m .byte r b .adds ≡ [])
-      (bound : (r : m .Recv) (b : ℕ) → k .Ok r → length (m .byte r b .adds) ≤ m .longest) where
+    -- a byte's record fits the output that is left, and so do the records of a reading
     adds-fit : (r : m .Recv) (room b : ℕ) → k .Ok r → (c : Bool) → m .closes r b ≡ c → (c && ltb room (m .longest)) ≡ false → length (m .byte r b .adds) ≤ room
-    adds-fit r room b h true c e = omega (arith, bound r b h, ltb-false room (m .longest) e)
-    adds-fit r room b h false c e = rw (quiet r b c) (omega arith)
+    adds-fit r room b h true c e = omega (arith, k .bound r b h, ltb-false room (m .longest) e)
+    adds-fit r room b h false c e = rw (k .quiet r b c) (omega arith)
 
     pub read-fits : (r : m .Recv) (room : ℕ) (input : List ℕ) → k .Ok r → length (read m r room input .records) ≤ room
     unfolding after
@@ -234,15 +160,47 @@ module _ (m : Machine) where
         let i = ih (k .byte r b h) in
         rw (length-append (m .byte r b .adds) (g .records)) (omega arith))
 
-    pub feed-length : (r : m .Recv) (input out : List ℕ) → k .Ok r → length (feed m r input out .output) ≡ length out
+    pub feed-keeps : (r : m .Recv) (input out : List ℕ) → k .Ok r → k .Ok (feed m r input out .next)
     unfolding unchanged wrote
-    feed-length r input out h = go (feed m r input out) (feed-cases r input out)
+    feed-keeps r input out h = go (feed m r input out) (feed-cases r input out)
       where
-        go : (f : Feed (m .Recv)) → Fed r input out f → length (f .output) ≡ length out
-        go f (still n) = refl
-        go f reads =
-            let l : length (read m r (length out) input .records) ≤ length out = read-fits r (length out) input h in
-            simp (length-append, length-drop) (omega arith)
+        go : (f : Feed (m .Recv)) → Fed r input out f → k .Ok (f .next)
+        go f (still n) = h
+        go f reads = read-keeps r (length out) input h
+
+    pub own-is : (r : m .Recv) (id : ℕ) → k .Ok r → own m r id ≡ m .call r id
+    unfolding own
+    own-is r id h = rw (k .plain r h, own)
+
+    -- ---- a session comes to what the uncut reading comes to
+
+    one-feed : (r : m .Recv) (input out : List ℕ) (cs : List Call) (f : Feed (m .Recv)) → Fed r input out f
+        → session m (f .next) cs ≡ uncut m (f .next) (events m (f .next) cs)
+        → fed (take (f .written) (f .output)) (session m (f .next) cs) ≡ uncut m r (map took (take (f .taken) input) ++ events m (f .next) cs)
+    unfolding unchanged wrote fed
+    one-feed r input out cs f (still n) ih = ih
+    one-feed r input out cs f reads ih =
+        let g : Reading (m .Recv) = read m r (length out) input in
+        ap (λ (l : List ℕ). fed l (session m (g .next) cs)) (take-append-seam (g .records) _)
+        ∙ ap (fed (g .records)) ih ∙ sym (read-uncut r (length out) input (events m (g .next) cs))
+
+    pub session-uncut : (r : m .Recv) → k .Ok r → (cs : List Call) → session m r cs ≡ uncut m r (events m r cs)
+    unfolding session events uncut
+    session-uncut r h [] = refl
+    session-uncut r h (feeds input out ∷ cs) =
+        one-feed r input out cs (feed m r input out) (feed-cases r input out) (session-uncut (feed m r input out .next) (feed-keeps r input out h) cs)
+    session-uncut r h (owns id ∷ cs) =
+        rw (own-is r id h) (ap (answered (m .call r id .number)) (session-uncut (m .call r id .next) (k .call r id h) cs))
+
+    -- 2 and 3 never arise later
+    pub uncut-keeps : (r : m .Recv) → k .Ok r → (es : List Event) → k .Ok (uncut m r es .end)
+    unfolding uncut fed answered
+    uncut-keeps r h [] = h
+    uncut-keeps r h (took b ∷ es) = uncut-keeps (m .byte r b .next) (k .byte r b h) es
+    uncut-keeps r h (asked id ∷ es) = uncut-keeps (m .call r id .next) (k .call r id h) es
+
+    pub session-keeps : (r : m .Recv) → k .Ok r → (cs : List Call) → k .Ok (session m r cs .end)
+    session-keeps r h cs = rw (session-uncut r h cs) (uncut-keeps r h (events m r cs))
 
 -- ---- for a loop over the input: what has been read so far, and the reading that is left
 

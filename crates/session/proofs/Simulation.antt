@@ -1,42 +1,23 @@
--- Two receivers that answer alike, byte by byte and call by call, answer alike in every feed and every session (E12).
--- Assumes nothing.
+-- Two receivers that answer alike, byte by byte and call by call, answer alike in every feed, every session and every uncut reading; and a
+-- receiver held in another form answers alike. Assumes nothing.
 use Prim.Native.Nat.{ℕ, zero, suc, _-_}
 use mathlib.Core.Path.{_≡_, refl, sym, ap, _∙_}
 use mathlib.Core.Bool.{Bool, true, false, _&&_}
 use mathlib.Core.List.{List, [], _∷_, _++_}
 use lib.ListN.{length, drop}
 use lib.Dec.{ltb}
-use Rattle.session.specs.Session.{Machine, Feed, Reading, after, read, unchanged, wrote, feed, own}
+use Rattle.session.specs.Session.{Machine, Reading, Outcome, Call, feeds, owns, Event, took, asked, after, read, unchanged, wrote, feed, own, fed, answered, uncut, session, events}
+use Rattle.session.specs.Simulation.{Alike, SameFeed, SameOutcome, Simulation}
 use Rattle.session.proofs.Laws.{read-short, read-refused, read-more}
 
-pub record Alike (m n : Machine) : Type 1 where
-  pub Rel : m .Recv → n .Recv → Type 0
-  pub longest : m .longest ≡ n .longest
-  pub roomy : (r : m .Recv) (q : n .Recv) → Rel r q → m .roomy r ≡ n .roomy q
-  pub shaped : (r : m .Recv) (q : n .Recv) → Rel r q → m .shaped r ≡ n .shaped q
-  pub plain : (r : m .Recv) (q : n .Recv) → Rel r q → m .plain r ≡ n .plain q
-  pub dead : (r : m .Recv) (q : n .Recv) → Rel r q → m .dead r ≡ n .dead q
-  pub closes : (r : m .Recv) (q : n .Recv) (b : ℕ) → Rel r q → m .closes r b ≡ n .closes q b
-  pub adds : (r : m .Recv) (q : n .Recv) (b : ℕ) → Rel r q → m .byte r b .adds ≡ n .byte q b .adds
-  pub byte : (r : m .Recv) (q : n .Recv) (b : ℕ) → Rel r q → Rel (m .byte r b .next) (n .byte q b .next)
-  pub number : (r : m .Recv) (q : n .Recv) (id : ℕ) → Rel r q → m .call r id .number ≡ n .call q id .number
-  pub call : (r : m .Recv) (q : n .Recv) (id : ℕ) → Rel r q → Rel (m .call r id .next) (n .call q id .next)
-
 module _ (m n : Machine) (a : Alike m n) where
-  pub record SameReading (g : Reading (m .Recv)) (h : Reading (n .Recv)) : Type 0 where
+  record SameReading (g : Reading (m .Recv)) (h : Reading (n .Recv)) : Type 0 where
     pub number : g .number ≡ h .number
     pub taken : g .taken ≡ h .taken
     pub records : g .records ≡ h .records
     pub next : a .Rel (g .next) (h .next)
 
-  pub record SameFeed (f : Feed (m .Recv)) (g : Feed (n .Recv)) : Type 0 where
-    pub number : f .number ≡ g .number
-    pub taken : f .taken ≡ g .taken
-    pub written : f .written ≡ g .written
-    pub output : f .output ≡ g .output
-    pub next : a .Rel (f .next) (g .next)
-
-  pub read-alike : (r : m .Recv) (q : n .Recv) (room : ℕ) (input : List ℕ) → a .Rel r q → SameReading (read m r room input) (read n q room input)
+  read-alike : (r : m .Recv) (q : n .Recv) (room : ℕ) (input : List ℕ) → a .Rel r q → SameReading (read m r room input) (read n q room input)
   unfolding read after
   read-alike r q room [] k = record { number = refl; taken = refl; records = refl; next = k }
   read-alike r q room (b ∷ bs) k =
@@ -68,23 +49,23 @@ module _ (m n : Machine) (a : Alike m n) where
       stop true e ih = rw (read-short m r room b bs e, read-short n q room b bs (sym eq ∙ e)) (record { number = refl; taken = refl; records = refl; next = k })
       stop false e ih = more (m .dead (m .byte r b .next)) e refl ih
 
-  still : (r : m .Recv) (q : n .Recv) (out : List ℕ) (x : ℕ) → a .Rel r q → SameFeed (unchanged m r out x) (unchanged n q out x)
+  still : (r : m .Recv) (q : n .Recv) (out : List ℕ) (x : ℕ) → a .Rel r q → SameFeed m n a (unchanged m r out x) (unchanged n q out x)
   unfolding unchanged
   still r q out x k = record { number = refl; taken = refl; written = refl; output = refl; next = k }
 
-  reads : (out : List ℕ) (g : Reading (m .Recv)) (h : Reading (n .Recv)) → SameReading g h → SameFeed (wrote m out g) (wrote n out h)
+  reads : (out : List ℕ) (g : Reading (m .Recv)) (h : Reading (n .Recv)) → SameReading g h → SameFeed m n a (wrote m out g) (wrote n out h)
   unfolding wrote
   reads out g h s =
       record { number = s .number; taken = s .taken; written = ap length (s .records); output = ap (λ l. l ++ drop (length l) out) (s .records); next = s .next }
 
-  pub feed-alike : (r : m .Recv) (q : n .Recv) (input out : List ℕ) → a .Rel r q → SameFeed (feed m r input out) (feed n q input out)
+  feed-alike : (r : m .Recv) (q : n .Recv) (input out : List ℕ) → a .Rel r q → SameFeed m n a (feed m r input out) (feed n q input out)
   unfolding feed
   feed-alike r q input out k = go (n .roomy q) (n .shaped q) (n .dead q) (ltb (length out) (n .longest)) refl refl refl refl
     where
       room : (l : Bool) → ltb (length out) (n .longest) ≡ l → ltb (length out) (m .longest) ≡ l
       room l e = ap (λ (x : ℕ). ltb (length out) x) (a .longest) ∙ e
 
-      go : (x y : Bool) (d : ℕ) (l : Bool) → n .roomy q ≡ x → n .shaped q ≡ y → n .dead q ≡ d → ltb (length out) (n .longest) ≡ l → SameFeed (feed m r input out) (feed n q input out)
+      go : (x y : Bool) (d : ℕ) (l : Bool) → n .roomy q ≡ x → n .shaped q ≡ y → n .dead q ≡ d → ltb (length out) (n .longest) ≡ l → SameFeed m n a (feed m r input out) (feed n q input out)
       go false y d l e₁ e₂ e₃ e₄ = rw (a .roomy r q k, e₁, feed) (still r q out 2 k)
       go true false d l e₁ e₂ e₃ e₄ = rw (a .roomy r q k, e₁, a .shaped r q k, e₂, feed) (still r q out 3 k)
       go true true (suc d) l e₁ e₂ e₃ e₄ = rw (a .roomy r q k, e₁, a .shaped r q k, e₂, a .dead r q k, e₃, feed) (still r q out (suc d) k)
@@ -92,13 +73,56 @@ module _ (m n : Machine) (a : Alike m n) where
       go true true zero false e₁ e₂ e₃ e₄ =
           rw (a .roomy r q k, e₁, a .shaped r q k, e₂, a .dead r q k, e₃, room false e₄, e₄, feed) (reads out (read m r (length out) input) (read n q (length out) input) (read-alike r q (length out) input k))
 
-  pub own-alike : (r : m .Recv) (q : n .Recv) (id : ℕ) → a .Rel r q → (own m r id .number ≡ own n q id .number) × a .Rel (own m r id .next) (own n q id .next)
+  own-alike : (r : m .Recv) (q : n .Recv) (id : ℕ) → a .Rel r q → (own m r id .number ≡ own n q id .number) × a .Rel (own m r id .next) (own n q id .next)
   unfolding own
   own-alike r q id k = go (n .plain q) refl
     where
       go : (x : Bool) → n .plain q ≡ x → (own m r id .number ≡ own n q id .number) × a .Rel (own m r id .next) (own n q id .next)
       go true e = rw (a .plain r q k, e, own) (a .number r q id k, a .call r q id k)
       go false e = rw (a .plain r q k, e, own) (refl, k)
+
+  -- ---- whole sessions
+
+  same-fed : (x y : List ℕ) (o : Outcome (m .Recv)) (u : Outcome (n .Recv)) → x ≡ y → SameOutcome m n a o u → SameOutcome m n a (fed x o) (fed y u)
+  unfolding fed
+  same-fed x y o u e s = record { end = s .end; records = rw (e, s .records); answers = s .answers }
+
+  same-answered : (x y : ℕ) (o : Outcome (m .Recv)) (u : Outcome (n .Recv)) → x ≡ y → SameOutcome m n a o u → SameOutcome m n a (answered x o) (answered y u)
+  unfolding answered
+  same-answered x y o u e s = record { end = s .end; records = s .records; answers = rw (e, s .answers) }
+
+  uncut-alike : (r : m .Recv) (q : n .Recv) (es : List Event) → a .Rel r q → SameOutcome m n a (uncut m r es) (uncut n q es)
+  unfolding uncut
+  uncut-alike r q [] k = record { end = k; records = refl; answers = refl }
+  uncut-alike r q (took b ∷ es) k = same-fed _ _ _ _ (a .adds r q b k) (uncut-alike _ _ es (a .byte r q b k))
+  uncut-alike r q (asked id ∷ es) k = same-answered _ _ _ _ (a .number r q id k) (uncut-alike _ _ es (a .call r q id k))
+
+  session-alike : (r : m .Recv) (q : n .Recv) (cs : List Call) → a .Rel r q → SameOutcome m n a (session m r cs) (session n q cs)
+  unfolding session
+  session-alike r q [] k = record { end = k; records = refl; answers = refl }
+  session-alike r q (feeds input out ∷ cs) k =
+      let f = feed-alike r q input out k in
+      same-fed _ _ _ _ (rw (f .written, f .output)) (session-alike _ _ cs (f .next))
+  session-alike r q (owns id ∷ cs) k =
+      let o = own-alike r q id k in
+      same-answered _ _ _ _ (o .0) (session-alike _ _ cs (o .1))
+
+  events-alike : (r : m .Recv) (q : n .Recv) (cs : List Call) → a .Rel r q → events m r cs ≡ events n q cs
+  unfolding events
+  events-alike r q [] k = refl
+  events-alike r q (feeds input out ∷ cs) k =
+      let f = feed-alike r q input out k in
+      rw (f .taken, events-alike _ _ cs (f .next))
+  events-alike r q (owns id ∷ cs) k = ap (λ (l : List Event). asked id ∷ l) (events-alike _ _ cs (own-alike r q id k .1))
+
+pub simulation : Simulation
+simulation m n a r q k = record {
+  feeds = λ input out. feed-alike m n a r q input out k;
+  owns = λ id. own-alike m n a r q id k;
+  sessions = λ cs. session-alike m n a r q cs k;
+  events = λ cs. events-alike m n a r q cs k;
+  uncuts = λ es. uncut-alike m n a r q es k;
+}
 
 -- ---- a receiver held in another form: each step reads the old form out of it and puts the new one back
 

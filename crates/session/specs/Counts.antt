@@ -4,20 +4,18 @@
 use Prim.Native.Nat.{ℕ, suc, _-_, _<_}
 use mathlib.Core.Path.{_≡_}
 use mathlib.Core.Bool.{Bool, true, false, _&&_}
-use mathlib.Core.List.{List, [], _∷_, _++_}
+use mathlib.Core.List.{List, map}
 use lib.ListN.{length, take, getD}
 use lib.Dec.{ltb}
-use Rattle.session.specs.Session.{Machine}
+use Rattle.session.specs.Session.{Machine, took, uncut}
 
 module _ (m : Machine) where
   -- the plain receiver after some bytes, and the records that they added
   unfoldable pub receiverAfter : m .Recv → List ℕ → m .Recv
-  receiverAfter r [] = r
-  receiverAfter r (b ∷ bs) = receiverAfter (m .byte r b .next) bs
+  receiverAfter r bs = uncut m r (map took bs) .end
 
   unfoldable pub recordsOf : m .Recv → List ℕ → List ℕ
-  recordsOf r [] = []
-  recordsOf r (b ∷ bs) = m .byte r b .adds ++ recordsOf (m .byte r b .next) bs
+  recordsOf r bs = uncut m r (map took bs) .records
 
   module _ (r : m .Recv) (room : ℕ) (input : List ℕ) where
     -- 5 stops the call before byte i: it is its frame's last, and less of the output is left than the longest record needs
@@ -40,3 +38,9 @@ module _ (m : Machine) where
       pub goesOn : (i : ℕ) → i < taken → stopsBefore i ≡ false
       pub lives : (i : ℕ) → 0 < i → i < taken → deadAfter i ≡ 0
       pub ended : Ended taken number
+
+-- no other number and taken count are those of the same call
+abbrev pub CountedOnce : Type 1
+CountedOnce =
+    (m : Machine) (r : m .Recv) (room : ℕ) (input : List ℕ) (number taken number′ taken′ : ℕ)
+    → Counted m r room input number taken → Counted m r room input number′ taken′ → (number ≡ number′) × (taken ≡ taken′)

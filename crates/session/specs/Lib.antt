@@ -1,2 +1,4 @@
 pub mod Session
 pub mod Counts
+pub mod Demand3
+pub mod Simulation
