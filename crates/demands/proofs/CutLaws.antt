@@ -49,7 +49,7 @@ pub record Under (bs : List ℕ) (r : Receiver) : Type 0 where
   pub held : take (length bs) (r .work) ≡ bs
   pub small : (i : ℕ) → getD bs i 0 < 256
 
-pub small-more : (bs : List ℕ) (b : ℕ) → b < 256 → ((i : ℕ) → getD bs i 0 < 256) → (i : ℕ) → getD (bs ++ b ∷ []) i 0 < 256
+small-more : (bs : List ℕ) (b : ℕ) → b < 256 → ((i : ℕ) → getD bs i 0 < 256) → (i : ℕ) → getD (bs ++ b ∷ []) i 0 < 256
 small-more [] b l h zero = l
 small-more [] b l h (suc i) = omega arith
 small-more (x ∷ xs) b l h zero = h 0

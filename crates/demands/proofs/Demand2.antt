@@ -48,7 +48,7 @@ one-number t r (live a m) = m .says .live ∙ sym a
 abbrev pub Steps : Step Past → Step Receiver → Type 0
 Steps u v = (Goes (u .next) (v .next)) × (v .adds ≡ u .adds)
 
-abbrev pub Replies : Reply Past → Reply Receiver → Type 0
+abbrev Replies : Reply Past → Reply Receiver → Type 0
 Replies u v = (Goes (u .next) (v .next)) × (v .number ≡ u .number)
 
 -- ---- the cases of a byte and of a finish
@@ -68,11 +68,11 @@ take-dead : (r : Receiver) (b n : ℕ) → r .state .dead ≡ suc n → takeByte
 unfolding takeByte
 take-dead r b n e = on-suc (r .state .dead) n (counted (put r b)) (λ _. record { next = r; adds = [] }) e
 
-pub past-dead : (t : Past) (b n : ℕ) → t .number ≡ suc n → byteAfter t b ≡ record { next = t; adds = [] }
+past-dead : (t : Past) (b n : ℕ) → t .number ≡ suc n → byteAfter t b ≡ record { next = t; adds = [] }
 unfolding byteAfter
 past-dead t b n e = on-suc (t .number) n (bytesAfter t (t .under ++ b ∷ [])) (λ _. record { next = t; adds = [] }) e
 
-pub past-live : (t : Past) (b : ℕ) → t .number ≡ 0 → byteAfter t b ≡ bytesAfter t (t .under ++ b ∷ [])
+past-live : (t : Past) (b : ℕ) → t .number ≡ 0 → byteAfter t b ≡ bytesAfter t (t .under ++ b ∷ [])
 unfolding byteAfter
 past-live t b e = on-zero (t .number) (bytesAfter t (t .under ++ b ∷ [])) (λ _. record { next = t; adds = [] }) e
 
@@ -84,14 +84,14 @@ finish-dead r j n e = ap (λ (a : Reply Channel). record { next = record { state
     rest : Reply Channel
     rest = elim (inPhase Running (slotOf (r .state) j)) [ true ↦ record { next = freed (r .state) j; number = 0 } | false ↦ record { next = r .state; number = 4 } ]
 
-abbrev pub asking : Past → ℕ → Reply Past
+abbrev asking : Past → ℕ → Reply Past
 asking t j = record { next = record { number = 0; deeds = finish j ∷ t .deeds; under = t .under }; number = answerTo (t .deeds) j }
 
-pub asked-dead : (t : Past) (j n : ℕ) → t .number ≡ suc n → finishAfter t j ≡ record { next = t; number = suc n }
+asked-dead : (t : Past) (j n : ℕ) → t .number ≡ suc n → finishAfter t j ≡ record { next = t; number = suc n }
 unfolding finishAfter
 asked-dead t j n e = on-suc (t .number) n (asking t j) (λ k. record { next = t; number = suc k }) e
 
-pub asked-live : (t : Past) (j : ℕ) → t .number ≡ 0 → finishAfter t j ≡ asking t j
+asked-live : (t : Past) (j : ℕ) → t .number ≡ 0 → finishAfter t j ≡ asking t j
 unfolding finishAfter
 asked-live t j e = on-zero (t .number) (asking t j) (λ k. record { next = t; number = suc k }) e
 
@@ -151,7 +151,7 @@ module _ (t : Past) (r : Receiver) (b : ℕ) (small : b < 256) (m : Holds (t .de
       rw (past-live t b e, l)
       (some-bytes (isLong bs) (isAll bs) refl (same-long bs p u) refl (same-whole bs p u) (subst (λ (v : Step Receiver). Ok (v .next)) l (take-ok r b (m .ok) .0)))
 
-pub one-byte : (t : Past) (r : Receiver) (b : ℕ) → b < 256 → Goes t r → Steps (byteAfter t b) (takeByte r b)
+one-byte : (t : Past) (r : Receiver) (b : ℕ) → b < 256 → Goes t r → Steps (byteAfter t b) (takeByte r b)
 one-byte t r b small (dead n a d) = rw (past-dead t b n a, take-dead r b n d) (dead n a d, refl)
 one-byte t r b small (live a m) = byte-live t r b small m a
 
@@ -162,7 +162,7 @@ unfolding freed
 finish-keeps r j bs u a (ended e) = record { pending = u .pending; held = u .held; small = u .small }
 finish-keeps r j bs u a (stays e) = u
 
-pub one-finish : (t : Past) (r : Receiver) (j : ℕ) → Goes t r → Replies (finishAfter t j) (Receiver.finish r j)
+one-finish : (t : Past) (r : Receiver) (j : ℕ) → Goes t r → Replies (finishAfter t j) (Receiver.finish r j)
 one-finish t r j (dead n a d) = rw (asked-dead t j n a, finish-dead r j n d) (dead n a d, refl)
 one-finish t r j (live a m) =
     let g = says-finish (t .deeds) r j (m .ok) (m .says) in
@@ -227,7 +227,7 @@ sent-more bs es zero s q = q
 sent-more [] es (suc n) s q = q
 sent-more (b ∷ bs) es (suc n) s q = byte (s 0) (sent-more bs es n (λ i. s (suc i)) q)
 
-pub fed-sent : (cs : List Call) (r : Receiver) → Fed cs → Sent (events channel r cs)
+fed-sent : (cs : List Call) (r : Receiver) → Fed cs → Sent (events channel r cs)
 unfolding events
 fed-sent [] r nil = none
 fed-sent (feeds input out ∷ cs) r (bytes s q) =
@@ -250,7 +250,7 @@ frame-after t f = go (refusalOf (t .deeds) f) refl
     go zero e = rw (e, frameAfter, given) (refl, refl)
     go (suc n) e = rw (e, frameAfter, given) (refl, refl)
 
-pub fresh-goes : (w : List ℕ) → workArea ≤ length w → Goes nothing (freshOn w)
+fresh-goes : (w : List ℕ) → workArea ≤ length w → Goes nothing (freshOn w)
 unfolding nothing
 fresh-goes w l = live refl (fresh-holds w l)
 

@@ -49,7 +49,7 @@ unfolding seen
 seen-at id q y i p h = rw (p, h)
 
 -- where a slot's phase leaves a length other than 0, it is collecting
-pub slot-length : (id n : ℕ) (p : Phase) (d : Bool) → slotFits (record { id = id; phase = p; databit = d; length = n }) ≡ true → (n ≤ maxCommand) × (eqb (code p) 1 ≡ false → n ≡ 0)
+slot-length : (id n : ℕ) (p : Phase) (d : Bool) → slotFits (record { id = id; phase = p; databit = d; length = n }) ≡ true → (n ≤ maxCommand) × (eqb (code p) 1 ≡ false → n ≡ 0)
 unfolding slotFits code
 slot-length id n Free d e = let z : n ≡ 0 = eqb-true n 0 (and-r (eqb id 0 && not d) (eqb n 0) e) in (omega arith, λ _. z)
 slot-length id n Collecting d e = (leb-true n maxCommand (and-r (not (isEven id)) (leb n maxCommand) e), λ k. clash refl k)

@@ -156,23 +156,23 @@ byte-writes r k live b =
 -- ---- a whole session
 
 -- bytes and finishes keep what is past the work area's bytes, and its length
-record Past (rest : List ℕ) (n : ℕ) (q : Receiver) : Type 0 where
+record Beyond (rest : List ℕ) (n : ℕ) (q : Receiver) : Type 0 where
   ok : Ok q
   same : drop workArea (q .work) ≡ rest
   size : length (q .work) ≡ n
 
-byte-past : (rest : List ℕ) (n : ℕ) (q : Receiver) (b : ℕ) → Past rest n q → Past rest n (takeByte q b .next)
+byte-past : (rest : List ℕ) (n : ℕ) (q : Receiver) (b : ℕ) → Beyond rest n q → Beyond rest n (takeByte q b .next)
 unfolding takeByte
 byte-past rest n q b h = go (q .state .dead) refl
   where
-    go : (d : ℕ) → q .state .dead ≡ d → Past rest n (takeByte q b .next)
+    go : (d : ℕ) → q .state .dead ≡ d → Beyond rest n (takeByte q b .next)
     go zero e = record { ok = keeps .byte q b (h .ok); same = live-past q b (h .ok) e ∙ h .same; size = live-size q b (h .ok) e ∙ h .size }
     go (suc d) e = rw (e, takeByte) h
 
 keeps-past : (rest : List ℕ) (n : ℕ) → Keeps channel
 unfolding finish
 keeps-past rest n = record {
-  Ok = Past rest n;
+  Ok = Beyond rest n;
   roomy = λ r h. keeps .roomy r (h .ok);
   shaped = λ r h. keeps .shaped r (h .ok);
   plain = λ r h. keeps .plain r (h .ok);
@@ -185,6 +185,6 @@ keeps-past rest n = record {
 pub past-kept : PastKept
 unfolding keeps-past
 past-kept r k cs =
-    let start : Past (drop workArea (r .work)) (length (r .work)) r = record { ok = ok r k; same = refl; size = refl } in
+    let start : Beyond (drop workArea (r .work)) (length (r .work)) r = record { ok = ok r k; same = refl; size = refl } in
     let end = session-keeps channel (keeps-past (drop workArea (r .work)) (length (r .work))) r start cs in
     (end .same, end .size)

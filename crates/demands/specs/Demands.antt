@@ -121,10 +121,10 @@ pub record Refused (r : Receiver) (b n : ℕ) (q : Receiver) : Type 0 where
   pub streams : q .state .streams ≡ r .state .streams
   pub pending : q .state .pending ≡ 0
   pub work : (24 ≤ n → n ≤ 26 → ⊥) → q .work ≡ put r b .work
-  pub first : 24 ≤ n → n ≤ 26 → isNew (frameOf (put r b .work)) ≡ true
-      → q .work ≡ write (put r b .work) (partStart (lowestFree (r .state))) (frameOf (put r b .work) .payload)
-  pub further : 24 ≤ n → n ≤ 26 → isNew (frameOf (put r b .work)) ≡ false
-      → q .work ≡ write (put r b .work) (partStart (placeOf (r .state) (frameOf (put r b .work) .request)) + slotOf (r .state) (frameOf (put r b .work) .request) .length) (frameOf (put r b .work) .payload)
+  pub first : 24 ≤ n → n ≤ 26 → isNew (frameWith r b) ≡ true
+      → q .work ≡ write (put r b .work) (partStart (lowestFree (r .state))) (frameWith r b .payload)
+  pub further : 24 ≤ n → n ≤ 26 → isNew (frameWith r b) ≡ false
+      → q .work ≡ write (put r b .work) (partStart (placeOf (r .state) (frameWith r b .request)) + slotOf (r .state) (frameWith r b .request) .length) (frameWith r b .payload)
 
 abbrev pub AfterRefusal : Type 0
 AfterRefusal =

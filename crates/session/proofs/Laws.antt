@@ -65,7 +65,7 @@ module _ (m : Machine) where
   abbrev AsUncut : m .Recv → List ℕ → List Event → Reading (m .Recv) → Type 0
   AsUncut r input es g = uncut m r (map took (take (g .taken) input) ++ es) ≡ fed (g .records) (uncut m (g .next) es)
 
-  pub fed-fed : (a b : List ℕ) (o : Outcome (m .Recv)) → fed a (fed b o) ≡ fed (a ++ b) o
+  fed-fed : (a b : List ℕ) (o : Outcome (m .Recv)) → fed a (fed b o) ≡ fed (a ++ b) o
   unfolding fed
   fed-fed a b o = rw append-assoc
 
@@ -160,7 +160,7 @@ module _ (m : Machine) where
         let i = ih (k .byte r b h) in
         rw (length-append (m .byte r b .adds) (g .records)) (omega arith))
 
-    pub feed-keeps : (r : m .Recv) (input out : List ℕ) → k .Ok r → k .Ok (feed m r input out .next)
+    feed-keeps : (r : m .Recv) (input out : List ℕ) → k .Ok r → k .Ok (feed m r input out .next)
     unfolding unchanged wrote
     feed-keeps r input out h = go (feed m r input out) (feed-cases r input out)
       where
