@@ -5,7 +5,7 @@ use mathlib.Core.Path.{_≡_, sym, ap, _∙_}
 use mathlib.Core.Bool.{Bool, true, false}
 use mathlib.Core.List.{List, []}
 use native.Mathlib.Omega.{arith}
-use lib.ListN.{length, take, drop, length-map}
+use lib.ListN.{length, take, drop}
 use borrow.Author.Needs.{needs}
 use Rattle.buffer.specs.Bytes.{write}
 use Rattle.requests.specs.declared.Slot.{Slot}
@@ -24,6 +24,7 @@ use Rattle.requests.specs.Slots.{collected}
 use Rattle.channel.specs.Receiver.{Receiver, command}
 use Rattle.channel.specs.Channel.{fedWith}
 use Rattle.channel.specs.Steps.{judgedInto, metOf, refusedWith, acceptedWith}
+use Rattle.channel.proofs.Handed.{eight}
 use Rattle.channel.proofs.JudgeLaws.{has-room, read-back, answers-more, answers-refused, answers-command}
 use Rattle.channel.proofs.Channel.command.Statement.{statement}
 use Rattle.channel.proofs.Channel.command.Tie as tie
@@ -90,12 +91,8 @@ module _ {s : Channel} {h : Header} {m : Met} {w : List ℕ} (a : Asked s h m w)
           (sym (answers-command s w out done (a .wide) (a .short) (a .count) (a .live) number-same kind-same (rw (a .h-is) at q) (sym (n-is ∙ ap checkOf part-is) ∙ z)))
 
 module _ (a : tie.Start) where
-  -- the number of the slots stands in what the parameter is handed with
-  eight : length (a .args .self .slots) ≡ slotCount
-  eight = sym (length-map (a .args .self .slots) _) ∙ a .good .0 .1 .1 .1 .1 .0 .1 .0 .1
-
   asked : Asked (a .args .self) (a .args .h) (a .args .m) (a .args .work .now)
-  asked = record { wide = a .pre .1 .0; short = a .pre .1 .1; count = eight; live = a .pre .1 .2; h-is = a .pre .1 .3; m-is = a .pre .1 .4; kind = a .pre .0; passes = a .pre .1 .5 }
+  asked = record { wide = a .pre .1 .0; short = a .pre .1 .1; count = eight (a .args .self) _ (a .good .0); live = a .pre .1 .2; h-is = a .pre .1 .3; m-is = a .pre .1 .4; kind = a .pre .0; passes = a .pre .1 .5 }
 
   fits : (a .args .m .target < 8) × (a .args .m .held + a .args .h .length ≤ 2048)
   fits = room asked [] 0

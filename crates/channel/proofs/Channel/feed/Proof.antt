@@ -4,16 +4,17 @@ use mathlib.Core.Path.{_≡_, refl, sym, _∙_}
 use mathlib.Core.Bool.{true}
 use mathlib.Core.List.{List}
 use lib.Dec.{leb}
-use lib.ListN.{length, length-map}
+use lib.ListN.{length}
 use borrow.Author.Needs.{needs}
 use borrow.Author.Tests.{le-leb, lt-leb, lt-ltb, le-ltb, not-true, not-false}
 use Prim.Native.Nat.{ℕ, _≤_}
-use Rattle.frame.specs.Limits.{slotCount, longestRecord, workArea}
+use Rattle.frame.specs.Limits.{longestRecord, workArea}
 use Rattle.session.specs.Session.{unchanged}
 use Rattle.session.proofs.Laws.{feed-small, feed-unshaped, feed-dead, feed-short, feed-reads}
 use Rattle.channel.specs.Receiver.{Receiver}
 use Rattle.channel.specs.Channel.{channel, shape}
 use Rattle.channel.specs.Steps.{receiver}
+use Rattle.channel.proofs.Handed.{eight}
 use Rattle.channel.proofs.ReceiverLaws.{Ok, ok-start}
 use Rattle.channel.proofs.LoopLaws.{feeds-all}
 use Rattle.channel.proofs.Channel.feed.Statement.{statement}
@@ -59,8 +60,7 @@ module _ (e : tie.Else2) where
   ok : Ok (r (e .before))
   ok =
       let s = start (e .before) in
-      let eight : length (s .args .self .slots) ≡ slotCount = sym (length-map (s .args .self .slots) _) ∙ s .good .0 .1 .1 .1 .1 .0 .1 .0 .1 in
-      ok-start (r (e .before)) (roomy (e .before)) eight shaped
+      ok-start (r (e .before)) (roomy (e .before)) (eight (s .args .self) _ (s .good .0)) shaped
 
 returns-3 : tie.Need-returns-3
 unfolding unchanged

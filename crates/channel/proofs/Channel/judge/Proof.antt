@@ -3,7 +3,7 @@
 use Prim.Native.Nat.{ℕ}
 use mathlib.Core.Path.{_≡_, sym, _∙_}
 use mathlib.Core.List.{List, []}
-use lib.ListN.{length, length-map}
+use lib.ListN.{length}
 use borrow.Author.Needs.{needs}
 use Rattle.frame.specs.declared.Header.{Header}
 use Rattle.frame.specs.Limits.{slotCount}
@@ -16,6 +16,7 @@ use Rattle.channel.specs.declared.Channel.{Channel}
 use Rattle.channel.specs.declared.Fed.{Fed}
 use Rattle.channel.specs.Channel.{fedWith}
 use Rattle.channel.specs.Steps.{judgedInto, metOf, HasFrame, Passed, refusedWith}
+use Rattle.channel.proofs.Handed.{eight}
 use Rattle.channel.proofs.JudgeLaws.{answers-head}
 use Rattle.channel.proofs.Channel.judge.Statement.{statement}
 use Rattle.channel.proofs.Channel.judge.Tie as tie
@@ -27,16 +28,12 @@ refuses : (s : Channel) (h : Header) (m : Met) (w out : List ℕ) (done n : ℕ)
 refuses s h m w out done n r p count h-is m-is n-is o r-is =
     rw r-is (sym (answers-head s w out done (p .0) (p .1) count (p .2) n (sym (rw (m-is, h-is) at n-is)) o))
 
--- the number of the slots stands in what the parameter is handed with
-eight : (b : tie.Start) → length (b .args .self .slots) ≡ slotCount
-eight b = sym (length-map (b .args .self .slots) _) ∙ b .good .0 .1 .1 .1 .1 .0 .1 .0 .1
-
 returns : tie.Need-returns
 returns c =
     let n = c .before .before in
     let x = n .before .before in
     let b = x .before .before .before .before in
-    refuses _ _ _ _ _ _ _ _ (b .pre) (eight b) (x .read-header .ensures) (n .before .met .ensures) (n .head-number .ensures) (c .before .if1 .taken) (c .refused .ensures)
+    refuses _ _ _ _ _ _ _ _ (b .pre) (eight (b .args .self) _ (b .good .0)) (x .read-header .ensures) (n .before .met .ensures) (n .head-number .ensures) (c .before .if1 .taken) (c .refused .ensures)
 
 -- rules 12 to 23 let the frame pass
 passed : (i : tie.Else1) → Passed (i .before .before .before .before .before .before .before .args .self) (i .before .before .before .read-header .result) (i .before .before .met .result) (i .before .before .before .before .before .before .before .args .work .now)

@@ -5,7 +5,7 @@ use mathlib.Core.Path.{_≡_, sym, ap, _∙_}
 use mathlib.Core.Bool.{Bool}
 use mathlib.Core.List.{List, []}
 use native.Mathlib.Omega.{arith}
-use lib.ListN.{length, take, drop, getD, length-map}
+use lib.ListN.{length, take, drop, getD}
 use borrow.Author.Needs.{needs}
 use Rattle.buffer.specs.Bytes.{write}
 use Rattle.frame.specs.declared.Header.{Header}
@@ -25,6 +25,7 @@ use Rattle.requests.specs.Slots.{dataSlot}
 use Rattle.channel.specs.Receiver.{Receiver, slotAt}
 use Rattle.channel.specs.Channel.{fedWith}
 use Rattle.channel.specs.Steps.{judgedInto, metOf, Passed, refusedWith, acceptedWith}
+use Rattle.channel.proofs.Handed.{eight}
 use Rattle.channel.proofs.JudgeLaws.{answers-last, answers-data, answers-settings}
 use Rattle.channel.proofs.Channel.other.Statement.{statement}
 use Rattle.channel.proofs.Channel.other.Tie as tie
@@ -75,15 +76,14 @@ module _ (b : tie.Start) where
   unfolding headerOf
   small = omega (arith, ap (λ (h : Header). h .length) (b .pre .1 .3))
 
-  -- the number of the slots stands in what the parameter is handed with
-  eight : length (b .args .self .slots) ≡ slotCount
-  eight = sym (length-map (b .args .self .slots) _) ∙ b .good .0 .1 .1 .1 .1 .0 .1 .0 .1
+  has-eight : length (b .args .self .slots) ≡ slotCount
+  has-eight = eight (b .args .self) _ (b .good .0)
 
 returns : tie.Need-returns
 returns c =
     let l = c .before .before in
     let b = l .before .before .before .before .before in
-    refuses _ _ _ _ _ _ (b .pre) (eight b) _ _ (l .last-number .ensures) (c .before .if1 .taken) (c .refused .ensures)
+    refuses _ _ _ _ _ _ (b .pre) (has-eight b) _ _ (l .last-number .ensures) (c .before .if1 .taken) (c .refused .ensures)
 
 returns-2 : tie.Need-returns-2
 returns-2 c =
@@ -92,7 +92,7 @@ returns-2 c =
     let i = x .before .before in
     let l = i .before .before .before in
     let b = l .before .before .before .before .before in
-    takes-data _ _ _ _ _ _ (b .pre) (eight b) _ _ _ _ _ _ _ (l .last-number .ensures) (i .before .before .if1 .left) (i .if2 .taken) (x .slot-at .ensures)
+    takes-data _ _ _ _ _ _ (b .pre) (has-eight b) _ _ _ _ _ _ _ (l .last-number .ensures) (i .before .before .if1 .left) (i .if2 .taken) (x .slot-at .ensures)
     (r .before .before .before .before .data-slot .ensures) (r .before .before .is-last .ensures) (r .put-record .ensures) (c .accepted .ensures)
 
 returns-3 : tie.Need-returns-3
@@ -100,7 +100,7 @@ returns-3 c =
     let i = c .before .before in
     let l = i .before .before .before in
     let b = l .before .before .before .before .before in
-    takes-settings _ _ _ _ _ _ (b .pre) (eight b) _ _ _ (l .last-number .ensures) (i .before .before .if1 .left) (i .if2 .left) (c .before .free .ensures) (c .accepted2 .ensures)
+    takes-settings _ _ _ _ _ _ (b .pre) (has-eight b) _ _ _ (l .last-number .ensures) (i .before .before .if1 .left) (i .if2 .left) (c .before .free .ensures) (c .accepted2 .ensures)
 
 pub other-spec : {M : Type 1} → statement M
 other-spec =

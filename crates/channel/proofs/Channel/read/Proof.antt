@@ -6,7 +6,7 @@ use mathlib.Core.Path.{_≡_, refl, sym, ap, _∙_, subst}
 use mathlib.Core.Logic.{⊎-elim}
 use mathlib.Core.List.{List}
 use native.Mathlib.Omega.{arith}
-use lib.ListN.{length, take, drop, length-map, length-drop, length-take}
+use lib.ListN.{length, take, drop, length-drop, length-take}
 use lib.Seq.{take-all}
 use borrow.Author.Needs.{needs}
 use borrow.Author.Tests.{le-leb}
@@ -19,6 +19,7 @@ use Rattle.channel.specs.declared.Fed.{Fed}
 use Rattle.channel.specs.Receiver.{Receiver}
 use Rattle.channel.specs.Channel.{channel, fedWith}
 use Rattle.channel.specs.Steps.{receiver, putFrom, quietCount, Part, partWith, pieceOf}
+use Rattle.channel.proofs.Handed.{eight}
 use Rattle.channel.proofs.ReceiverLaws.{ok-start, held-e}
 use Rattle.channel.proofs.PieceLaws.{Comes, all-taken, piece-comes, answered, further, same-answer, still, turn-plain, turn-judged}
 use Rattle.channel.proofs.LoopLaws.{So, so-start, so-end, so-on, so-off, piece, piece-within, piece-fits, same-length}
@@ -35,8 +36,7 @@ abbrev μ-loop : tie.MeasureT-loop
 loop-holds : tie.Need-loop-holds Inv-loop μ-loop
 loop-holds c =
     let s = c .before .before .before in
-    let eight : length (s .args .self .slots) ≡ 8 = sym (length-map (s .args .self .slots) _) ∙ s .good .0 .1 .1 .1 .1 .0 .1 .0 .1 in
-    (refl, so-start (receiver (s .args .self) (s .args .work .now)) (s .args .out .now) (s .args .input .now) (ok-start (receiver (s .args .self) (s .args .work .now)) (le-leb workArea (length (s .args .work .now)) (s .pre .0)) eight (s .pre .2)) (s .pre .1))
+    (refl, so-start (receiver (s .args .self) (s .args .work .now)) (s .args .out .now) (s .args .input .now) (ok-start (receiver (s .args .self) (s .args .work .now)) (le-leb workArea (length (s .args .work .now)) (s .pre .0)) (eight (s .args .self) _ (s .good .0)) (s .pre .2)) (s .pre .1))
 
 -- what is known in the loop
 module _ (a : tie.At-loop Inv-loop μ-loop) where
