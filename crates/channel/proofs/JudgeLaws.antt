@@ -14,7 +14,7 @@ use Rattle.buffer.proofs.WriteLaws.{own-part, write-none}
 use Rattle.requests.specs.declared.Slot.{Slot}
 use Rattle.requests.specs.Phases.{freeSlot}
 use Rattle.frame.specs.declared.Header.{Header}
-use Rattle.frame.specs.Limits.{maxPayload, slotCount, workArea, partStart}
+use Rattle.frame.specs.Limits.{slotCount, partStart}
 use Rattle.frame.specs.Header.{lengthOf, headerOf}
 use Rattle.frame.specs.Frame.{Frame, framed, frameOf, begins, ends, isType, isNew, isMore, dataFollows, isLast, flagsFit}
 use Rattle.frame.specs.Records.{requestRecord}
@@ -27,10 +27,18 @@ use Rattle.rules.proofs.StageLaws.{no-other, rest-more, rest-whole, rest-other,
 use Rattle.session.specs.Session.{Feed}
 use Rattle.channel.specs.declared.Channel.{Channel}
 use Rattle.requests.specs.Slots.{collected, dataSlot}
-use Rattle.channel.specs.Receiver.{Receiver, slotAt, target, commandLength, command, placed, streamOpen, viewOf, refused, refusedWork, commandSlot, slotsAfter, streamsAfter, accepted, judge}
+use Rattle.channel.specs.Receiver.{Receiver, slotAt, placeOf, lowestFree, target, commandLength, command, placed, streamOpen, viewOf, refused, refusedWork, commandSlot, slotsAfter, streamsAfter, accepted, judge}
 use Rattle.channel.specs.Channel.{fedWith}
-use Rattle.channel.specs.Steps.{putFrom, stepped, judgedInto, metOf, refusedWith, acceptedWith}
+use Rattle.channel.specs.Steps.{putFrom, stepped, judgedInto, metOf, HasFrame, Passed, refusedWith, acceptedWith}
 use Rattle.channel.proofs.ReceiverLaws.{room-of}
+
+-- what a frame that rules 12 to 23 let pass meets, and its number, by the header in the work area
+module _ {s : Channel} {h : Header} {m : Met} {w : List ℕ} (p : Passed s h m w) where
+  pub met-same : m ≡ metOf s (headerOf w)
+  met-same = p .met ∙ ap (metOf s) (p .header)
+
+  pub passes-same : firstBroken headRules (framed (headerOf w) []) (viewed (metOf s (headerOf w)) (headerOf w) []) ≡ 0
+  passes-same = rw (met-same, p .header) at (p .passes)
 
 -- the work area that a refusal leaves
 module _ (s : Channel) (f : Frame) (w : List ℕ) where
@@ -42,7 +50,7 @@ module _ (s : Channel) (f : Frame) (w : List ℕ) where
   unfolding refusedWork
   is-placed n a b = rw (and-i (leb 24 n) (leb n 26) (le-leb 24 n a) (le-leb n 26 b))
 
-module _ (s : Channel) (w out : List ℕ) (done : ℕ) (wide : workArea ≤ length w) (short : lengthOf w ≤ maxPayload) (count : length (s .slots) ≡ slotCount) (live : s .dead ≡ 0) where
+module _ {s : Channel} {w : List ℕ} (g : HasFrame s w) (count : length (s .slots) ≡ slotCount) (out : List ℕ) (done : ℕ) where
   abbrev h : Header
   h = headerOf w
 
@@ -79,7 +87,7 @@ module _ (s : Channel) (w out : List ℕ) (done : ℕ) (wide : workArea ≤ leng
   payload-length = length-take-le (lengthOf w) (drop 8 w) (omega (arith, length-drop 8 w))
 
   pub view-same : viewed m h (command s f w) ≡ viewOf s f w
-  unfolding viewOf frameOf streamOpen target commandLength isNew headerOf
+  unfolding viewOf frameOf streamOpen placeOf lowestFree slotAt target commandLength isNew headerOf
   view-same = rw payload-length
 
   pub head-same : head-number ≡ firstBroken headRules f (viewOf s f w)
@@ -105,13 +113,13 @@ module _ (s : Channel) (w out : List ℕ) (done : ℕ) (wide : workArea ≤ leng
   -- ---- a frame that rules 12 to 23 let pass
 
   size-same : commandLength s f ≡ size
-  unfolding commandLength target frameOf isNew headerOf
+  unfolding commandLength placeOf lowestFree slotAt target frameOf isNew headerOf
   size-same = rw payload-length
 
   accepts : (i : ℕ) (x : Slot) (work new : List ℕ) → firstBroken rules f v ≡ 0 → slotsAfter s f ≡ set (s .slots) i x → cond (isCommand f) (placed s f w) w ≡ work → recordWith f (command s f w) ≡ new
       → goal ≡ fedWith (acceptedWith s h i x (length new)) work (write out done new)
   unfolding accepted streamsAfter frameOf ends
-  accepts i x work new z a b c = judged-zero z ∙ rw (a, b, c, live)
+  accepts i x work new z a b c = judged-zero z ∙ rw (a, b, c, g .live)
 
   module _ (e : head-number ≡ 0) where
     rest : firstBroken rules f v ≡ firstBroken (drop 12 rules) f v
@@ -125,14 +133,14 @@ module _ (s : Channel) (w out : List ℕ) (done : ℕ) (wide : workArea ≤ leng
       is-command = eq-eqb (h .kind) 1 k
 
       pub has-room : (m .target < 8) × (size ≤ 2048)
-      unfolding rules target frameOf isNew
+      unfolding rules placeOf lowestFree target frameOf isNew
       has-room =
           let e′ : firstBroken headRules f v ≡ 0 = sym head-same ∙ e in
           let (a, b) = room-of s f w count (passed f v headRules 20 0 refl e′) (passed f v headRules 21 0 refl e′) (passed f v headRules 23 0 refl e′) is-command in
           (a, rw (← size-same) b)
 
       pub read-back : take size (drop (partStart (m .target)) placedIn) ≡ command s f w
-      unfolding command target frameOf isNew headerOf
+      unfolding command placeOf lowestFree slotAt target frameOf isNew headerOf
       read-back =
           let (a, b) = has-room in
           ap (λ (n : ℕ). take (m .held + n) (drop (partStart (m .target)) placedIn)) (sym payload-length)
@@ -140,7 +148,7 @@ module _ (s : Channel) (w out : List ℕ) (done : ℕ) (wide : workArea ≤ leng
 
       accepts-command : (new : List ℕ) → firstBroken rules f v ≡ 0 → recordWith f (command s f w) ≡ new
           → goal ≡ fedWith (acceptedWith s h (m .target) (collected (framed h []) size) (length new)) placedIn (write out done new)
-      unfolding slotsAfter commandSlot placed target frameOf isNew isMore dataFollows headerOf
+      unfolding slotsAfter commandSlot placed placeOf lowestFree slotAt target frameOf isNew isMore dataFollows headerOf
       accepts-command new z = accepts (m .target) (collected (framed h []) size) placedIn new z slots-same work-same
         where
           slots-same : slotsAfter s f ≡ set (s .slots) (m .target) (collected (framed h []) size)
@@ -159,7 +167,7 @@ module _ (s : Channel) (w out : List ℕ) (done : ℕ) (wide : workArea ≤ leng
         all-check = rest ∙ rest-whole f v is-command q
 
         pub answers-refused : (n : ℕ) → checkOf (command s f w) ≡ n → (n ≡ 0 → ⊥) → goal ≡ fedWith (refusedWith s n) placedIn out
-        unfolding placed target frameOf isNew headerOf
+        unfolding placed placeOf lowestFree slotAt target frameOf isNew headerOf
         answers-refused n c o =
             let (a, b) = check-range (command s f w) n c o in
             judged-suc n placedIn (all-check ∙ c) o (is-placed s f w n a b)
@@ -180,7 +188,7 @@ module _ (s : Channel) (w out : List ℕ) (done : ℕ) (wide : workArea ≤ leng
       no-command = ne-eqb (h .kind) 1 o
 
       all-last : firstBroken rules f v ≡ number
-      unfolding rules firstBroken viewOf frameOf headerOf
+      unfolding rules firstBroken viewOf placeOf slotAt frameOf headerOf
       all-last = rest ∙ rest-other f v no-command
 
       pub answers-last : (n : ℕ) → number ≡ n → (n ≡ 0 → ⊥) → goal ≡ fedWith (refusedWith s n) w out
@@ -196,7 +204,7 @@ module _ (s : Channel) (w out : List ℕ) (done : ℕ) (wide : workArea ≤ leng
 
       pub answers-data : number ≡ 0 → h .kind ≡ 2 → let new = requestRecord 2 (h .request) (isLast (framed h [])) payload in
           goal ≡ fedWith (acceptedWith s h (m .place) (dataSlot (slotAt s (m .place)) (framed h [])) (length new)) w (write out done new)
-      unfolding slotsAfter recordWith dataSlot frameOf isType isLast headerOf
+      unfolding slotsAfter recordWith dataSlot placeOf slotAt frameOf isType isLast headerOf
       answers-data z k = accepts (m .place) (dataSlot (slotAt s (m .place)) (framed h [])) w (requestRecord 2 (h .request) (isLast (framed h [])) payload) (all-last ∙ z) slots-same work-stays new-same
         where
           is-data : isType 2 f ≡ true

@@ -5,7 +5,7 @@ use mathlib.Core.Path.{_≡_}
 use mathlib.Core.Bool.{cond, not}
 use mathlib.Core.List.{List, []}
 use lib.ListN.{length, take, getD, set}
-use lib.Dec.{leb, ltb, eqb}
+use lib.Dec.{ltb, eqb}
 use Rattle.buffer.specs.Bytes.{write}
 use Rattle.frame.specs.declared.Header.{Header}
 use Rattle.frame.specs.Limits.{maxPayload, longestRecord, workArea}
@@ -14,12 +14,12 @@ use Rattle.frame.specs.Frame.{framed, frameOf, ends}
 use Rattle.requests.specs.declared.Slot.{Slot}
 use Rattle.rules.specs.declared.Met.{Met}
 use Rattle.rules.specs.Rules.{firstBroken}
-use Rattle.rules.specs.Stages.{viewed, headRules}
+use Rattle.rules.specs.Stages.{metIn, viewed, headRules}
 use Rattle.session.specs.Session.{Step, Reading, Feed}
 use Rattle.channel.specs.declared.Channel.{Channel}
 use Rattle.channel.specs.declared.Fed.{Fed}
 use Rattle.channel.specs.declared.feed.Piece.{Piece}
-use Rattle.channel.specs.Receiver.{Receiver, slotAt, slotOf, placeOf, lowestFree, target, streamOpen, judge}
+use Rattle.channel.specs.Receiver.{Receiver, streamOpen, judge}
 
 abbrev pub receiver : Channel → List ℕ → Receiver
 receiver s w = record { state = s; work = w }
@@ -34,17 +34,7 @@ stepped t = record { number = t .next .state .dead; taken = 1; next = t .next; r
 
 -- what the frame of a header meets
 abbrev pub metOf : Channel → Header → Met
-metOf s h =
-    let f = framed h [] in
-    record {
-      «is_open» = streamOpen s f;
-      place = placeOf s (h .request);
-      phase = slotOf s (h .request) .phase;
-      databit = slotOf s (h .request) .databit;
-      full = leb (length (s .slots)) (lowestFree s);
-      target = target s f;
-      held = slotAt s (target s f) .length;
-    }
+metOf s h = metIn (s .slots) (streamOpen s (framed h [])) h
 
 -- a state with another slot at a place
 abbrev pub slotSet : Channel → ℕ → Slot → Channel
@@ -74,13 +64,17 @@ abbrev pub judgedInto : List ℕ → ℕ → Channel → List ℕ → Feed Recei
 judgedInto out done s w = putFrom out done (stepped (judge s (frameOf w) w))
 
 -- a live channel, and a frame that 11 lets pass
-abbrev pub HasFrame : Channel → List ℕ → Type 0
-HasFrame s w = (workArea ≤ length w) × (lengthOf w ≤ maxPayload) × (s .dead ≡ 0)
+pub record HasFrame (s : Channel) (w : List ℕ) : Type 0 where
+  pub wide : workArea ≤ length w
+  pub short : lengthOf w ≤ maxPayload
+  pub live : s .dead ≡ 0
 
 -- and its header, what it meets, and that rules 12 to 23 let it pass
-abbrev pub Passed : Channel → Header → Met → List ℕ → Type 0
-Passed s h m w =
-    (workArea ≤ length w) × (lengthOf w ≤ maxPayload) × (s .dead ≡ 0) × (h ≡ headerOf w) × (m ≡ metOf s h) × (firstBroken headRules (framed h []) (viewed m h []) ≡ 0)
+pub record Passed (s : Channel) (h : Header) (m : Met) (w : List ℕ) : Type 0 where
+  pub frame : HasFrame s w
+  pub header : h ≡ headerOf w
+  pub met : m ≡ metOf s h
+  pub passes : firstBroken headRules (framed h []) (viewed m h []) ≡ 0
 
 -- ---- a piece of the input: the bytes up to the next one that is judged, and that one
 

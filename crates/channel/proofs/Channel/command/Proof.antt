@@ -10,37 +10,26 @@ use borrow.Author.Needs.{needs}
 use Rattle.buffer.specs.Bytes.{write}
 use Rattle.requests.specs.declared.Slot.{Slot}
 use Rattle.frame.specs.declared.Header.{Header}
-use Rattle.frame.specs.Limits.{maxPayload, slotCount, workArea, partStart}
-use Rattle.frame.specs.Header.{lengthOf, headerOf}
+use Rattle.frame.specs.Limits.{slotCount, partStart}
+use Rattle.frame.specs.Header.{headerOf}
 use Rattle.frame.specs.Frame.{framed, frameOf, isMore, dataFollows}
 use Rattle.frame.specs.Records.{requestRecord}
 use Rattle.rules.specs.declared.Met.{Met}
-use Rattle.rules.specs.Rules.{checkOf, firstBroken}
-use Rattle.rules.specs.Stages.{viewed, headRules}
+use Rattle.rules.specs.Rules.{checkOf}
 use Rattle.session.specs.Session.{Feed}
 use Rattle.channel.specs.declared.Channel.{Channel}
 use Rattle.channel.specs.declared.Fed.{Fed}
 use Rattle.requests.specs.Slots.{collected}
 use Rattle.channel.specs.Receiver.{Receiver, command}
 use Rattle.channel.specs.Channel.{fedWith}
-use Rattle.channel.specs.Steps.{judgedInto, metOf, refusedWith, acceptedWith}
+use Rattle.channel.specs.Steps.{judgedInto, Passed, refusedWith, acceptedWith}
 use Rattle.channel.proofs.Handed.{eight}
-use Rattle.channel.proofs.JudgeLaws.{has-room, read-back, answers-more, answers-refused, answers-command}
+use Rattle.channel.proofs.JudgeLaws.{met-same, passes-same, has-room, read-back, answers-more, answers-refused, answers-command}
 use Rattle.channel.proofs.Channel.command.Statement.{statement}
 use Rattle.channel.proofs.Channel.command.Tie as tie
 
--- what the caller shows of the state, the header, what its frame meets, and the work area
-record Asked (s : Channel) (h : Header) (m : Met) (w : List ℕ) : Type 0 where
-  wide : workArea ≤ length w
-  short : lengthOf w ≤ maxPayload
-  count : length (s .slots) ≡ slotCount
-  live : s .dead ≡ 0
-  h-is : h ≡ headerOf w
-  m-is : m ≡ metOf s h
-  kind : h .kind ≡ 1
-  passes : firstBroken headRules (framed h []) (viewed m h []) ≡ 0
-
-module _ {s : Channel} {h : Header} {m : Met} {w : List ℕ} (a : Asked s h m w) (out : List ℕ) (done : ℕ) where
+-- the contract over plain values, with what the caller shows and the number of the slots
+module _ {s : Channel} {h : Header} {m : Met} {w : List ℕ} (kind : h .kind ≡ 1) (p : Passed s h m w) (count : length (s .slots) ≡ slotCount) (out : List ℕ) (done : ℕ) where
   abbrev start : ℕ
   start = partStart (m .target)
 
@@ -50,17 +39,11 @@ module _ {s : Channel} {h : Header} {m : Met} {w : List ℕ} (a : Asked s h m w)
   abbrev goal : Feed Receiver
   goal = judgedInto out done s w
 
-  m-same : m ≡ metOf s (headerOf w)
-  m-same = a .m-is ∙ ap (metOf s) (a .h-is)
-
   kind-same : headerOf w .kind ≡ 1
-  kind-same = rw (a .h-is) at (a .kind)
-
-  number-same : firstBroken headRules (framed (headerOf w) []) (viewed (metOf s (headerOf w)) (headerOf w) []) ≡ 0
-  number-same = rw (m-same, a .h-is) at (a .passes)
+  kind-same = rw (p .header) at kind
 
   room : (m .target < 8) × (size ≤ 2048)
-  room = rw (m-same, a .h-is) (has-room s w out done (a .wide) (a .short) (a .count) (a .live) number-same kind-same)
+  room = rw (met-same p, p .header) (has-room (p .frame) count out done (passes-same p) kind-same)
 
   -- the work area and the slot as the calls leave them
   module _ (w′ : List ℕ) (x : Slot) (w-is : w′ ≡ write w (start + m .held) (take (h .length) (drop 8 w))) (x-is : x ≡ collected (framed h []) size) where
@@ -70,38 +53,38 @@ module _ {s : Channel} {h : Header} {m : Met} {w : List ℕ} (a : Asked s h m w)
     part-is : part ≡ command s (frameOf w) w
     part-is =
         let n : start + size - start ≡ size = omega arith in
-        rw (n, w-is, m-same, a .h-is) (read-back s w out done (a .wide) (a .short) (a .count) (a .live) number-same kind-same)
+        rw (n, w-is, met-same p, p .header) (read-back (p .frame) count out done (passes-same p) kind-same)
 
     goes-on : (r : Fed) → isMore (framed h []) ≡ true → r ≡ acceptedWith s h (m .target) x 0 → fedWith r w′ out ≡ goal
     goes-on r q r-is =
-        rw (r-is, x-is, w-is, m-same, a .h-is)
-        (sym (answers-more s w out done (a .wide) (a .short) (a .count) (a .live) number-same kind-same (rw (a .h-is) at q)))
+        rw (r-is, x-is, w-is, met-same p, p .header)
+        (sym (answers-more (p .frame) count out done (passes-same p) kind-same (rw (p .header) at q)))
 
     -- the frame ends its command, and n is the number of its check
     module _ (n : ℕ) (q : isMore (framed h []) ≡ false) (n-is : n ≡ checkOf part) where
       stops : (r : Fed) → (n ≡ 0 → ⊥) → r ≡ refusedWith s n → fedWith r w′ out ≡ goal
       stops r o r-is =
-          rw (r-is, w-is, m-same, a .h-is)
-          (sym (answers-refused s w out done (a .wide) (a .short) (a .count) (a .live) number-same kind-same (rw (a .h-is) at q) n (sym (n-is ∙ ap checkOf part-is)) o))
+          rw (r-is, w-is, met-same p, p .header)
+          (sym (answers-refused (p .frame) count out done (passes-same p) kind-same (rw (p .header) at q) n (sym (n-is ∙ ap checkOf part-is)) o))
 
       runs : (r : Fed) (b : Bool) (l : ℕ) (out′ : List ℕ) → n ≡ 0 → b ≡ dataFollows (framed h []) → let new = requestRecord 1 (h .request) b part in
           (l ≡ length new) × (out′ ≡ write out done new) → r ≡ acceptedWith s h (m .target) x l → fedWith r w′ out′ ≡ goal
       runs r b l out′ z b-is (l-is, out-is) r-is =
-          rw (r-is, l-is, out-is, part-is, b-is, x-is, w-is, m-same, a .h-is)
-          (sym (answers-command s w out done (a .wide) (a .short) (a .count) (a .live) number-same kind-same (rw (a .h-is) at q) (sym (n-is ∙ ap checkOf part-is) ∙ z)))
+          rw (r-is, l-is, out-is, part-is, b-is, x-is, w-is, met-same p, p .header)
+          (sym (answers-command (p .frame) count out done (passes-same p) kind-same (rw (p .header) at q) (sym (n-is ∙ ap checkOf part-is) ∙ z)))
 
 module _ (a : tie.Start) where
-  asked : Asked (a .args .self) (a .args .h) (a .args .m) (a .args .work .now)
-  asked = record { wide = a .pre .1 .0; short = a .pre .1 .1; count = eight (a .args .self) _ (a .good .0); live = a .pre .1 .2; h-is = a .pre .1 .3; m-is = a .pre .1 .4; kind = a .pre .0; passes = a .pre .1 .5 }
+  has-eight : length (a .args .self .slots) ≡ slotCount
+  has-eight = eight (a .args .self) _ (a .good .0)
 
   fits : (a .args .m .target < 8) × (a .args .m .held + a .args .h .length ≤ 2048)
-  fits = room asked [] 0
+  fits = room (a .pre .0) (a .pre .1) has-eight [] 0
 
 place-requires : tie.Need-place-requires
 place-requires c κs =
     let a = c .before .before .before .before .before in
     let (b, d) = fits a in
-    (a .pre .1 .0, b, d)
+    (a .pre .1 .frame .wide, b, d)
 
 module _ (i : tie.After-is-more) where
   abbrev placed : tie.After-place
@@ -117,7 +100,7 @@ returns : tie.Need-returns
 returns c =
     let i = c .before .before in
     let a = first i in
-    goes-on (asked a) (a .args .out .now) (a .args .done) _ _ (placed i .place .ensures) (i .before .command-slot .ensures) _
+    goes-on (a .pre .0) (a .pre .1) (has-eight a) (a .args .out .now) (a .args .done) _ _ (placed i .place .ensures) (i .before .command-slot .ensures) _
     (sym (i .is-more .ensures) ∙ c .before .if1 .taken) (c .accepted .ensures)
 
 returns-2 : tie.Need-returns-2
@@ -126,7 +109,7 @@ returns-2 c =
     let e = n .before .before .before in
     let i = e .before in
     let a = first i in
-    stops (asked a) (a .args .out .now) (a .args .done) _ _ (placed i .place .ensures) (i .before .command-slot .ensures) _
+    stops (a .pre .0) (a .pre .1) (has-eight a) (a .args .out .now) (a .args .done) _ _ (placed i .place .ensures) (i .before .command-slot .ensures) _
     (sym (i .is-more .ensures) ∙ e .if1 .left) (n .command-number .ensures) _ (c .before .if2 .taken) (c .refused .ensures)
 
 returns-3 : tie.Need-returns-3
@@ -138,7 +121,7 @@ returns-3 c =
     let e = n .before .before .before in
     let i = e .before in
     let a = first i in
-    runs (asked a) (a .args .out .now) (a .args .done) _ _ (placed i .place .ensures) (i .before .command-slot .ensures) _
+    runs (a .pre .0) (a .pre .1) (has-eight a) (a .args .out .now) (a .args .done) _ _ (placed i .place .ensures) (i .before .command-slot .ensures) _
     (sym (i .is-more .ensures) ∙ e .if1 .left) (n .command-number .ensures) _ _ _ _ (z .if2 .left) (d .data-follows .ensures) (r .put-record .ensures) (c .accepted2 .ensures)
 
 pub command-spec : {M : Type 1} → statement M

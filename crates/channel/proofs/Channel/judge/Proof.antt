@@ -26,7 +26,7 @@ refuses : (s : Channel) (h : Header) (m : Met) (w out : List ℕ) (done n : ℕ)
     → length (s .slots) ≡ slotCount → h ≡ headerOf w → m ≡ metOf s h → n ≡ firstBroken headRules (framed h []) (viewed m h []) → (n ≡ 0 → ⊥)
     → r ≡ refusedWith s n → fedWith r w out ≡ judgedInto out done s w
 refuses s h m w out done n r p count h-is m-is n-is o r-is =
-    rw r-is (sym (answers-head s w out done (p .0) (p .1) count (p .2) n (sym (rw (m-is, h-is) at n-is)) o))
+    rw r-is (sym (answers-head p count out done n (sym (rw (m-is, h-is) at n-is)) o))
 
 returns : tie.Need-returns
 returns c =
@@ -40,7 +40,7 @@ passed : (i : tie.Else1) → Passed (i .before .before .before .before .before .
 passed i =
     let n = i .before in
     let b = n .before .before .before .before .before .before in
-    (b .pre .0, b .pre .1, b .pre .2, n .before .before .read-header .ensures, n .before .met .ensures, sym (n .head-number .ensures) ∙ i .if1 .left)
+    record { frame = b .pre; header = n .before .before .read-header .ensures; met = n .before .met .ensures; passes = sym (n .head-number .ensures) ∙ i .if1 .left }
 
 pub judge-spec : {M : Type 1} → statement M
 judge-spec =

@@ -1,12 +1,12 @@
 -- `Channel::met` meets its contract, by what is found among the slots.
 -- Assumes nothing.
 use borrow.Author.Needs.{needs}
-use Rattle.channel.specs.Receiver.{placeOf, lowestFree, target, slotAt, streamOpen}
+use Rattle.channel.specs.Receiver.{streamOpen}
 use Rattle.channel.proofs.Channel.met.Statement.{statement}
 use Rattle.channel.proofs.Channel.met.Tie as tie
 
 returns : tie.Need-returns
-unfolding placeOf lowestFree target slotAt streamOpen
+unfolding streamOpen
 returns c = c .look-up .ensures
 
 pub met-spec : {M : Type 1} → statement M

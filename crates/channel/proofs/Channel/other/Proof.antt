@@ -17,23 +17,21 @@ use Rattle.requests.specs.declared.Slot.{Slot}
 use Rattle.requests.specs.Phases.{freeSlot}
 use Rattle.rules.specs.declared.Met.{Met}
 use Rattle.rules.specs.Rules.{firstBroken}
-use Rattle.rules.specs.Stages.{viewed, headRules, lastRules}
+use Rattle.rules.specs.Stages.{viewed, lastRules}
 use Rattle.session.specs.Session.{Feed}
 use Rattle.channel.specs.declared.Channel.{Channel}
 use Rattle.channel.specs.declared.Fed.{Fed}
 use Rattle.requests.specs.Slots.{dataSlot}
 use Rattle.channel.specs.Receiver.{Receiver, slotAt}
 use Rattle.channel.specs.Channel.{fedWith}
-use Rattle.channel.specs.Steps.{judgedInto, metOf, Passed, refusedWith, acceptedWith}
+use Rattle.channel.specs.Steps.{judgedInto, Passed, refusedWith, acceptedWith}
 use Rattle.channel.proofs.Handed.{eight}
-use Rattle.channel.proofs.JudgeLaws.{answers-last, answers-data, answers-settings}
+use Rattle.channel.proofs.JudgeLaws.{met-same, passes-same, answers-last, answers-data, answers-settings}
 use Rattle.channel.proofs.Channel.other.Statement.{statement}
 use Rattle.channel.proofs.Channel.other.Tie as tie
 
 -- the contract over plain values, with what the caller shows and the number of the slots
-module _ (s : Channel) (h : Header) (m : Met) (w out : List ℕ) (done : ℕ)
-    (p : (h .kind ≡ 1 → ⊥) × Passed s h m w)
-    (count : length (s .slots) ≡ slotCount) where
+module _ {s : Channel} {h : Header} {m : Met} {w : List ℕ} (kind : h .kind ≡ 1 → ⊥) (p : Passed s h m w) (count : length (s .slots) ≡ slotCount) (out : List ℕ) (done : ℕ) where
   abbrev goal : Feed Receiver
   goal = judgedInto out done s w
 
@@ -50,31 +48,31 @@ module _ (s : Channel) (h : Header) (m : Met) (w out : List ℕ) (done : ℕ)
   cut : 8 + h .length - 8 ≡ h .length
   cut = omega arith
 
-  head : firstBroken headRules (framed (headerOf w) []) (viewed (metOf s (headerOf w)) (headerOf w) []) ≡ 0
-  head = rw (p .1 .4, p .1 .3) at (p .1 .5)
+  kind-same : headerOf w .kind ≡ 1 → ⊥
+  kind-same = rw (p .header) at kind
 
   refuses : (n : ℕ) (r : Fed) → n ≡ number → (n ≡ 0 → ⊥) → r ≡ refusedWith s n → fedWith r w out ≡ goal
   refuses n r q o r-is =
       rw r-is
-      (sym (answers-last s w out done (p .1 .0) (p .1 .1) count (p .1 .2) head (rw (p .1 .3) at (p .0)) n (sym (rw (cut, p .1 .4, p .1 .3) at q)) o))
+      (sym (answers-last (p .frame) count out done (passes-same p) kind-same n (sym (rw (cut, met-same p, p .header) at q)) o))
 
   takes-data : (n k : ℕ) (x y : Slot) (last : Bool) (after : List ℕ) (r : Fed) → n ≡ number → n ≡ 0 → h .kind ≡ 2
       → x ≡ getD (s .slots) (m .place) freeSlot → y ≡ dataSlot x (framed h []) → last ≡ isLast (framed h [])
       → (k ≡ length (new last)) × (after ≡ write out done (new last)) → r ≡ acceptedWith s h (m .place) y k → fedWith r w after ≡ goal
   unfolding slotAt
   takes-data n k x y last after r q z t x-is y-is last-is (k-is, after-is) r-is =
-      rw (r-is, y-is, x-is, k-is, after-is, last-is, cut, p .1 .4, p .1 .3)
-      (sym (answers-data s w out done (p .1 .0) (p .1 .1) count (p .1 .2) head (rw (p .1 .3) at (p .0)) (sym (rw (cut, p .1 .4, p .1 .3) at q) ∙ z) (rw (p .1 .3) at t)))
+      rw (r-is, y-is, x-is, k-is, after-is, last-is, cut, met-same p, p .header)
+      (sym (answers-data (p .frame) count out done (passes-same p) kind-same (sym (rw (cut, met-same p, p .header) at q) ∙ z) (rw (p .header) at t)))
 
   takes-settings : (n : ℕ) (x : Slot) (r : Fed) → n ≡ number → n ≡ 0 → (h .kind ≡ 2 → ⊥) → x ≡ freeSlot → r ≡ acceptedWith s h 8 x 0 → fedWith r w out ≡ goal
   takes-settings n x r q z t x-is r-is =
-      rw (r-is, x-is, p .1 .3)
-      (sym (answers-settings s w out done (p .1 .0) (p .1 .1) count (p .1 .2) head (rw (p .1 .3) at (p .0)) (sym (rw (cut, p .1 .4, p .1 .3) at q) ∙ z) (rw (p .1 .3) at t)))
+      rw (r-is, x-is, p .header)
+      (sym (answers-settings (p .frame) count out done (passes-same p) kind-same (sym (rw (cut, met-same p, p .header) at q) ∙ z) (rw (p .header) at t)))
 
 module _ (b : tie.Start) where
   small : b .args .h .length ≤ maxPayload
   unfolding headerOf
-  small = omega (arith, ap (λ (h : Header). h .length) (b .pre .1 .3))
+  small = omega (arith, ap (λ (h : Header). h .length) (b .pre .1 .header))
 
   has-eight : length (b .args .self .slots) ≡ slotCount
   has-eight = eight (b .args .self) _ (b .good .0)
@@ -83,7 +81,7 @@ returns : tie.Need-returns
 returns c =
     let l = c .before .before in
     let b = l .before .before .before .before .before in
-    refuses _ _ _ _ _ _ (b .pre) (has-eight b) _ _ (l .last-number .ensures) (c .before .if1 .taken) (c .refused .ensures)
+    refuses (b .pre .0) (b .pre .1) (has-eight b) _ _ _ _ (l .last-number .ensures) (c .before .if1 .taken) (c .refused .ensures)
 
 returns-2 : tie.Need-returns-2
 returns-2 c =
@@ -92,7 +90,7 @@ returns-2 c =
     let i = x .before .before in
     let l = i .before .before .before in
     let b = l .before .before .before .before .before in
-    takes-data _ _ _ _ _ _ (b .pre) (has-eight b) _ _ _ _ _ _ _ (l .last-number .ensures) (i .before .before .if1 .left) (i .if2 .taken) (x .slot-at .ensures)
+    takes-data (b .pre .0) (b .pre .1) (has-eight b) _ _ _ _ _ _ _ _ _ (l .last-number .ensures) (i .before .before .if1 .left) (i .if2 .taken) (x .slot-at .ensures)
     (r .before .before .before .before .data-slot .ensures) (r .before .before .is-last .ensures) (r .put-record .ensures) (c .accepted .ensures)
 
 returns-3 : tie.Need-returns-3
@@ -100,7 +98,7 @@ returns-3 c =
     let i = c .before .before in
     let l = i .before .before .before in
     let b = l .before .before .before .before .before in
-    takes-settings _ _ _ _ _ _ (b .pre) (has-eight b) _ _ _ (l .last-number .ensures) (i .before .before .if1 .left) (i .if2 .left) (c .before .free .ensures) (c .accepted2 .ensures)
+    takes-settings (b .pre .0) (b .pre .1) (has-eight b) _ _ _ _ _ (l .last-number .ensures) (i .before .before .if1 .left) (i .if2 .left) (c .before .free .ensures) (c .accepted2 .ensures)
 
 pub other-spec : {M : Type 1} → statement M
 other-spec =
