@@ -49,7 +49,17 @@ pub fn refusal(c: Checked) -> u32
 pub fn name_number(command: &[u8]) -> u32
     ensures { λ r. ⌜ r ≡ numberOf (checked (now (command .entry))) ⌝ }
 {
-    refusal(check(command))
+    let c = check(command);
+    let Checked::Command {
+        start: _,
+        stop: _,
+        count: _,
+        first: _,
+    } = c
+    else {
+        return refusal(c);
+    };
+    0
 }
 
 // The content of the command's name; empty exactly if the command is refused.
