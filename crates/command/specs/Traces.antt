@@ -1,9 +1,10 @@
--- Document 01's traces of commands, T8 to T11, and further ones: for each command and argument key, the check's number, and the number and
--- the value of the argument as an integer. proofs/Traces.antt proves the table.
+-- Further commands, beside the table of T1 to T12 in the crate demands: for each command and argument key, the check's number, and the
+-- number and the value of the argument as an integer. proofs/Traces.antt proves the table.
 -- These are definitions: they assume nothing.
 use Prim.Native.Nat.{ℕ, _-_, _^_}
-use mathlib.Core.List.{List, [], _∷_}
-use lib.IntN.{ℤ, pos, negsuc}
+use mathlib.Core.Path.{_≡_}
+use mathlib.Core.List.{List, [], _∷_, map}
+use lib.IntN.{ℤ, pos}
 use Rattle.command.specs.Command.{checked, numberOf}
 use Rattle.command.specs.Lookup.{numberNumber, numberValue, integerAt}
 
@@ -33,16 +34,6 @@ row c n m z = record { command = c; key = x; answer = record { checked = n; numb
 
 unfoldable pub traces : List Trace
 traces =
-    -- T8: 3B 7F and seven FF means -2^63, and 3B 80 and seven 00 gives 8
-    row (withX (0x3b ∷ 0x7f ∷ 0xff ∷ 0xff ∷ 0xff ∷ 0xff ∷ 0xff ∷ 0xff ∷ 0xff ∷ [])) 0 0 (negsuc (2 ^ 63 - 1)) ∷
-    row (withX (0x3b ∷ 0x80 ∷ 0 ∷ 0 ∷ 0 ∷ 0 ∷ 0 ∷ 0 ∷ 0 ∷ [])) 0 8 (pos 0) ∷
-    -- T9: 20 means -1
-    row (withX (0x20 ∷ [])) 0 0 (negsuc 0) ∷
-    -- T10: the empty command
-    row [] 24 24 (pos 0) ∷
-    -- T11: eight levels are allowed (the outer map, `args`, six arrays; an array is no integer: 7), nine give 24
-    row (withX (0x81 ∷ 0x81 ∷ 0x81 ∷ 0x81 ∷ 0x81 ∷ 0x81 ∷ 0 ∷ [])) 0 7 (pos 0) ∷
-    row (withX (0x81 ∷ 0x81 ∷ 0x81 ∷ 0x81 ∷ 0x81 ∷ 0x81 ∷ 0x80 ∷ [])) 24 24 (pos 0) ∷
     -- T1's command: no argument
     row (withArgs (0xa0 ∷ [])) 0 6 (pos 0) ∷
     -- 2^63-1 and 2^63
@@ -68,3 +59,7 @@ answerOf t = record {
   number = numberNumber (integerAt (t .command) (t .key));
   value = numberValue (integerAt (t .command) (t .key));
 }
+
+-- the table holds
+abbrev pub TracesHold : Type 0
+TracesHold = map answerOf traces ≡ map (λ (t : Trace). t .answer) traces
