@@ -21,7 +21,7 @@ use Rattle.command_map.specs.declared.Checked.the-variants.{Command, Not
 use Rattle.command_map.specs.declared.Judged.{Judged}
 use Rattle.command_map.specs.declared.Fields.{Fields}
 use Rattle.command_map.specs.CommandMap.{name-key, args-key, redirect-key, isName, isMap, isArgs, hasDouble, valueItem, allowed, valueUnder, argsDouble, double, mapOf, mapChecked}
-use Rattle.command_map.specs.Walk.{firstBytes, firstMap, noneJudged, unallowed, withName, withKeys, withRedirect, withArgs, judge, Walked, commandOf, alsoDouble}
+use Rattle.command_map.specs.Walk.{firstBytes, firstMap, noneJudged, unallowed, withName, withKeys, withRedirect, withArgs, judge, Walked, commandOf, alsoDouble, JudgementHolds}
 
 -- a value of each kind
 name-bytes : (x : Item) → isName x ≡ true → (start : ℕ) × (stop : ℕ) × (x ≡ Bytes start stop)
@@ -202,9 +202,9 @@ module _ (s : List ℕ) where
   double-too false true start stop count first = refl
   double-too false false start stop count first = refl
 
-  map-judged : (es : List Entry) → mapOf s es ≡ alsoDouble (twice (contents s es)) (commandOf (foldl (judge s) noneJudged es))
+  pub judgement-holds : JudgementHolds s
   unfolding mapOf double
-  map-judged es = by (all (allowed s) es) refl
+  judgement-holds es = by (all (allowed s) es) refl
     where
       by : (b : Bool) → all (allowed s) es ≡ b → mapOf s es ≡ alsoDouble (twice (contents s es)) (commandOf (foldl (judge s) noneJudged es))
       by false h = rw (all-allowed noneJudged es, h)
@@ -222,4 +222,4 @@ module _ (s : List ℕ) where
   -- the check of a map that ends where the bytes do, by what the walk over it left
   pub map-whole : (n at p : ℕ) (starts stops : List ℕ) (f : Fields) → Walked s n at starts stops f → f .end ≡ At p → p ≡ length s → mapChecked s n at ≡ alsoDouble (twice (contents s (entries s 7 n at))) (commandOf (f .judged))
   unfolding mapChecked
-  map-whole n at p starts stops f w e h = rw (← w .ends, e, eq-eqb p (length s) h, map-judged, ← w .judged)
+  map-whole n at p starts stops f w e h = rw (← w .ends, e, eq-eqb p (length s) h, judgement-holds, ← w .judged)

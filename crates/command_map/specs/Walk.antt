@@ -8,6 +8,7 @@ use lib.ListN.{length}
 use Rattle.cbor.specs.declared.Item.{Item}
 use Rattle.cbor.specs.declared.Item.the-variants.{Refused}
 use Rattle.cbor.specs.Cbor.{ifBytes, ifMap, repeat, pair, value}
+use Rattle.keys.specs.Keys.{twice}
 use Rattle.entries.specs.declared.Entry.{Entry}
 use Rattle.entries.specs.declared.Keys.{Keys}
 use Rattle.entries.specs.declared.Keys.the-variants.{Single, Double, Others}
@@ -17,7 +18,7 @@ use Rattle.command_map.specs.declared.Judged.{Judged}
 use Rattle.command_map.specs.declared.Fields.{Fields}
 use Rattle.command_map.specs.declared.Checked.{Checked}
 use Rattle.command_map.specs.declared.Checked.the-variants.{Command, NotItem, NotCommand, DoubleKey}
-use Rattle.command_map.specs.CommandMap.{name-key, args-key, redirect-key, isName, isMap, valueItem}
+use Rattle.command_map.specs.CommandMap.{name-key, args-key, redirect-key, isName, isMap, valueItem, mapOf}
 
 -- the first of two items that is a byte string, or a map
 abbrev pub firstBytes : Item → Item → Item
@@ -78,3 +79,7 @@ alsoDouble t (Command start stop count first) = cond t DoubleKey (Command start 
 alsoDouble t NotItem = NotItem
 alsoDouble t NotCommand = NotCommand
 alsoDouble t DoubleKey = DoubleKey
+
+-- the walk's judgement of entries, with the keys that stand twice, says what the command map says of them
+abbrev pub JudgementHolds : List ℕ → Type 0
+JudgementHolds s = (es : List Entry) → mapOf s es ≡ alsoDouble (twice (contents s es)) (commandOf (foldl (judge s) noneJudged es))

@@ -17,7 +17,7 @@ use Rattle.keys.specs.Keys.{part, keysAt, twice}
 use Rattle.entries.specs.declared.Entry.{Entry}
 use Rattle.entries.specs.declared.Entry.the-variants.{Keyed, Other, Broken}
 use Rattle.entries.specs.Entries.{contents}
-use Rattle.entries.specs.Row.{kept, rowDouble, roomFor, keptCount, keptStarts, keptStops, Keeps}
+use Rattle.entries.specs.Row.{kept, rowDouble, roomFor, keptCount, keptStarts, keptStops, Keeps, RowAnswers}
 use Rattle.entries.proofs.Entry.{the-type}
 use Rattle.entries.proofs.Folds.{not-keyed}
 use Rattle.entries.proofs.Bools.{and-left, and-right}
@@ -131,6 +131,6 @@ in-row true true a b h = h refl
 in-row true false a b h = refl
 in-row false Q a b h = refl
 
-pub row-answers : (s : List ℕ) (es : List Entry) (starts stops : List ℕ) (k : ℕ) → (k ≤ length starts → contents s es ≡ kept s starts stops k) → rowDouble s es starts stops k ≡ twice (contents s es)
+pub row-answers : RowAnswers
 unfolding rowDouble
 row-answers s es starts stops k h = in-row (leb k (length starts)) (leb k (length stops)) _ _ (λ e. ap twice (sym (h (leb-true k (length starts) e))))

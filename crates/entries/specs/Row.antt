@@ -50,3 +50,10 @@ pub record Holds (s : List ℕ) (es : List Entry) (starts stops : List ℕ) (k :
 abbrev pub KeptAll : List ℕ → List Entry → List ℕ → List ℕ → Kept → Type 0
 KeptAll s es starts stops (Strings k) = Holds s es starts stops k
 KeptAll s es starts stops Mixed = all isKeyed es ≡ false
+
+-- a row that has the keys of the entries, where k is not past its end, answers for them: so the search in the row and the search in the
+-- entries give one answer
+abbrev pub RowAnswers : Type 0
+RowAnswers =
+    (s : List ℕ) (es : List Entry) (starts stops : List ℕ) (k : ℕ) → (k ≤ length starts → contents s es ≡ kept s starts stops k)
+    → rowDouble s es starts stops k ≡ twice (contents s es)

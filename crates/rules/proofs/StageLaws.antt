@@ -2,7 +2,7 @@
 -- Assumes nothing.
 use Prim.Native.Nat.{ℕ, zero, suc, _≤_, _<_}
 use mathlib.Core.Path.{_≡_, refl, sym, _∙_}
-use mathlib.Core.Bool.{Bool, true, false, _&&_, not, false≢true, true≢false}
+use mathlib.Core.Bool.{Bool, true, false, cond, _&&_, not, false≢true, true≢false}
 use mathlib.Core.List.{List}
 use native.Mathlib.Omega.{arith}
 use lib.ListN.{drop}
@@ -13,7 +13,7 @@ use Rattle.command_map.specs.declared.Checked.the-variants.{Command, NotItem, N
 use Rattle.command.specs.Command.{checked, numberOf}
 use Rattle.frame.specs.Frame.{Frame, isType, isMore}
 use Rattle.rules.specs.Rules.{View, isCommand, checkOf, judged, rules, firstBroken}
-use Rattle.rules.specs.Stages.{headRules, lastRules}
+use Rattle.rules.specs.Stages.{headRules, lastRules, tried, StagesHold}
 use Rattle.rules.proofs.RuleLaws.{in-range, first-rest, first-among}
 
 -- 24 to 26 and what follows: t tells whether the command is whole, k is the check's number
@@ -104,3 +104,20 @@ module _ (f : Frame) (v : View) where
           let last : firstBroken lastRules f v ≡ suc n = sym (rest-other c) ∙ sym (all-rest (head-none (suc n) e (λ _. a))) ∙ e in
           let (x, y) = in-range f v lastRules 27 29 n refl last in
           absurd (omega arith)
+
+-- the stages, put together
+pub stages-hold : StagesHold
+unfolding tried
+stages-hold f v = by-head (firstBroken headRules f v) refl
+  where
+    rest : ℕ
+    rest = cond (isCommand f) (cond (isMore f) 0 (checkOf (v .command))) (firstBroken lastRules f v)
+
+    by-kind : (c m : Bool) → isCommand f ≡ c → isMore f ≡ m → firstBroken (drop 12 rules) f v ≡ cond c (cond m 0 (checkOf (v .command))) (firstBroken lastRules f v)
+    by-kind true true c m = rest-more f v c m
+    by-kind true false c m = rest-whole f v c m
+    by-kind false m c q = rest-other f v c
+
+    by-head : (n : ℕ) → firstBroken headRules f v ≡ n → firstBroken rules f v ≡ tried n true rest
+    by-head zero e = all-rest f v e ∙ by-kind (isCommand f) (isMore f) refl refl
+    by-head (suc n) e = all-head f v (suc n) e (λ h. omega arith) .0
