@@ -82,6 +82,10 @@ write-twice (x ∷ xs) (suc i) s t = rw suc-add (ap (λ (l : List ℕ). x ∷ l)
 write-twice (x ∷ xs) zero [] t = refl
 write-twice (x ∷ xs) zero (b ∷ bs) t = rw zero-add (ap (λ (l : List ℕ). b ∷ l) (ap (λ (k : ℕ). write (write xs zero bs) k t) (sym (zero-add (length bs))) ∙ write-twice xs zero bs t))
 
+-- bytes that would stand past the end are left out
+pub write-past : (w : List ℕ) (i : ℕ) (s t : List ℕ) → length w ≤ i + length s → write w i (s ++ t) ≡ write w i s
+write-past w i s t h = rw (← write-twice w i s t) (write-out (write w i s) (i + length s) t (omega (arith, length-write w i s)))
+
 -- the bytes before a place and those put there
 pub take-written : (w : List ℕ) (i : ℕ) (s : List ℕ) → i + length s ≤ length w → take (i + length s) (write w i s) ≡ take i w ++ s
 take-written w i s h =

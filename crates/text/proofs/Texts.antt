@@ -7,82 +7,47 @@ use Prim.Native.Nat.{ℕ, zero, suc, _+_, _-_, _*_, _/_, _%_, _≤_, _<_, min}
 use native.Mathlib.Omega.{arith}
 use borrow.Author.Tests.{leb-true, leb-false}
 use lib.Dec.{leb, ltb}
-use lib.ListN.{length, take, drop, set, length-append, length-set}
-use lib.Seq.{sets-eq, sets, set-out, take-at}
-use Rattle.text.specs.Text.{putOf, endOf, Added, hexOf, decimalBefore, decimalOf}
-
--- the buffer keeps its length
-pub put-length : (out : List ℕ) (at : ℕ) (t : List ℕ) → length (putOf out at t) ≡ length out
-unfolding putOf
-put-length out at [] = refl
-put-length out at (b ∷ rest) = put-length (set out at b) (suc at) rest ∙ length-set out at b
-
-past : (out : List ℕ) (at : ℕ) (t : List ℕ) → length out ≤ at → putOf out at t ≡ out
-unfolding putOf
-past out at [] h = refl
-past out at (b ∷ rest) h = rw (set-out out at b h) (past out (suc at) rest (omega arith))
-
--- no text, or no room: the buffer is as it was
-pub put-none : (out : List ℕ) (at : ℕ) (t : List ℕ) → min (length t) (length out - at) ≡ 0 → putOf out at t ≡ out
-unfolding putOf
-put-none out at [] h = refl
-put-none out at (b ∷ rest) h = past out at (b ∷ rest) (omega arith)
+use lib.ListN.{length, take, length-append}
+use Rattle.buffer.specs.Bytes.{write}
+use Rattle.buffer.proofs.WriteLaws.{length-write, write-none, write-out, write-twice, take-front}
+use Rattle.text.specs.Text.{Added, hexOf, decimalBefore, decimalOf}
 
 -- no text is put
 pub nothing : (out : List ℕ) (at : ℕ) → Added out at [] out at
-unfolding putOf endOf
-nothing out at = record { buffer = refl; next = omega arith }
-
--- a text and after it another: the buffer, with the second from where the first would end
-pub put-append : (out : List ℕ) (at : ℕ) (t u : List ℕ) → putOf out at (t ++ u) ≡ putOf (putOf out at t) (at + length t) u
-unfolding putOf
-put-append out at [] u = let e : at + zero ≡ at = omega arith in rw e
-put-append out at (b ∷ rest) u = let e : suc at + length rest ≡ at + suc (length rest) = omega arith in rw (← e) (put-append (set out at b) (suc at) rest u)
+nothing out at = record { buffer = sym (write-none out at); next = omega arith }
 
 -- where a text of k bytes ends, and where it would end with room for all of it, the same is put
-cut : (out : List ℕ) (at k : ℕ) (u : List ℕ) (fits : Bool) → leb k (length out - at) ≡ fits → putOf out (at + min k (length out - at)) u ≡ putOf out (at + k) u
+cut : (out : List ℕ) (at k : ℕ) (u : List ℕ) (fits : Bool) → leb k (length out - at) ≡ fits → write out (at + min k (length out - at)) u ≡ write out (at + k) u
 cut out at k u true e =
     let h : k ≤ length out - at = leb-true k (length out - at) e in
     let m : min k (length out - at) ≡ k = omega arith in
     rw m
 cut out at k u false e =
     let h : length out - at < k = leb-false k (length out - at) e in
-    past out (at + min k (length out - at)) u (omega arith) ∙ sym (past out (at + k) u (omega arith))
+    write-out out (at + min k (length out - at)) u (omega arith) ∙ sym (write-out out (at + k) u (omega arith))
 
 ends : (at t u n p : ℕ) → p ≡ at + min t (n - at) → p + min u (n - p) ≡ at + min (t + u) (n - at)
 ends at t u n p e = omega arith
 
 -- a text, and after it another from where the first ended: true also where the buffer cuts them
 pub join : {old mid new t u : List ℕ} {at p r : ℕ} → Added old at t mid p → Added mid p u new r → Added old at (t ++ u) new r
-unfolding endOf
 join {old} {mid} {new} {t} {u} {at} {p} {r} a b =
-    let same : length mid ≡ length old = ap length (a .buffer) ∙ put-length old at t in
+    let same : length mid ≡ length old = ap length (a .buffer) ∙ length-write old at t in
     let e : p ≡ at + min (length t) (length mid - at) = omega (arith, a .next) in
     record {
-      buffer = b .buffer ∙ rw (e, put-append old at t u, ← a .buffer) (cut mid at (length t) u (leb (length t) (length mid - at)) refl);
+      buffer = b .buffer ∙ rw (e, ← write-twice old at t u, ← a .buffer) (cut mid at (length t) u (leb (length t) (length mid - at)) refl);
       next = b .next ∙ rw (length-append t u, ← same) (ends at (length t) (length u) (length mid) p e);
     }
 
 -- the position after stays within the buffer
 pub within : {old new t : List ℕ} {at r : ℕ} → Added old at t new r → at ≤ length old → r ≤ length new
-unfolding endOf
-within {old} {new} {t} {at} a h = omega (arith, a .next, ap length (a .buffer), put-length old at t)
-
-put-sets : (out : List ℕ) (at : ℕ) (t : List ℕ) → putOf out at t ≡ sets out at t
-unfolding putOf
-put-sets out at [] = refl
-put-sets out at (b ∷ rest) = put-sets (set out at b) (suc at) rest
-
--- a text that fits stands in the buffer, between what stood before it and behind it
-pub laid : {old new t : List ℕ} {at r : ℕ} → Added old at t new r → at + length t ≤ length old → new ≡ take at old ++ t ++ drop (at + length t) old
-laid {old} {new} {t} {at} a h = a .buffer ∙ put-sets old at t ∙ sets-eq t old at h
+within {old} {new} {t} {at} a h = omega (arith, a .next, ap length (a .buffer), length-write old at t)
 
 -- a text that fits at the start of a buffer is what stands there
 pub whole : {old new t : List ℕ} {r : ℕ} → Added old 0 t new r → length t ≤ length old → take r new ≡ t
-unfolding endOf
 whole {old} {new} {t} {r} a h =
-    let e : length t ≡ r = omega (arith, a .next) in
-    rw (laid a (omega arith)) (take-at t (drop (0 + length t) old) r e)
+    let e : r ≡ length t = omega (arith, a .next) in
+    rw (e, a .buffer) (take-front old t h)
 
 -- two digits for each byte
 pub hex-length : (s : List ℕ) → length (hexOf s) ≡ 2 * length s

@@ -3,21 +3,17 @@ use Prim.Native.Nat.{ℕ, zero, suc, _+_, _-_, _/_, _%_, min}
 use mathlib.Core.Path.{_≡_}
 use mathlib.Core.Bool.{cond}
 use mathlib.Core.List.{List, [], _∷_}
-use lib.ListN.{length, set}
+use lib.ListN.{length}
 use lib.Dec.{ltb}
-
--- the buffer with a text from `at` on; `set` past the end changes nothing, so what does not fit is left out
-unfoldable pub putOf : List ℕ → ℕ → List ℕ → List ℕ
-putOf out at [] = out
-putOf out at (b ∷ rest) = putOf (set out at b) (suc at) rest
+use Rattle.buffer.specs.Bytes.{write}
 
 -- the position after what fits of the text
-unfoldable pub endOf : List ℕ → ℕ → List ℕ → ℕ
+abbrev pub endOf : List ℕ → ℕ → List ℕ → ℕ
 endOf out at text = at + min (length text) (length out - at)
 
--- a text was put at `at`
+-- a text was put at `at`, as far as the buffer goes
 pub record Added (old : List ℕ) (at : ℕ) (text new : List ℕ) (r : ℕ) : Type 0 where
-  pub buffer : new ≡ putOf old at text
+  pub buffer : new ≡ write old at text
   pub next : r ≡ endOf old at text
 
 -- the ASCII code of a digit below 16: `0` to `9`, then `a` to `f`

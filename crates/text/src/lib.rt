@@ -10,13 +10,8 @@ ghost use Rattle.text.specs.Digit.{digitOf};
 pub fn put(words: &[u8], out: &mut [u8], at: usize) -> usize
     ensures { λ r. ⌜ Added (now (out .entry)) at (now (words .entry)) (now (out .exit)) r ⌝ }
 {
-    let n = least(words.len(), room(out.len(), at));
-    let mut i: usize = 0;
-    while i < n {
-        out[at + i] = words[i];
-        i += 1;
-    }
-    at + n
+    buffer::put(out, at, words);
+    at + least(words.len(), room(out.len(), at))
 }
 
 // Each byte as two lower-case hex digits. Where only the first digit of a byte fits, it is put.

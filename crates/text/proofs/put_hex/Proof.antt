@@ -7,32 +7,30 @@ use native.Mathlib.Numerals.{add-one}
 use native.Mathlib.Omega.{arith}
 use lib.ListN.{length, drop, set, getD, length-set, drop-of-length-le}
 use lib.Seq.{drop-cons}
-use Rattle.text.specs.Text.{putOf, endOf, glyphOf, hexOf}
-use Rattle.text.proofs.Texts.{put-none, hex-length}
+use Rattle.buffer.specs.Bytes.{write}
+use Rattle.buffer.proofs.WriteLaws.{write-none, write-set, write-past}
+use Rattle.text.specs.Text.{glyphOf, hexOf}
+use Rattle.text.proofs.Texts.{hex-length}
 use Rattle.text.proofs.put_hex.Statement.{statement}
 use Rattle.text.proofs.put_hex.Tie as tie
 
 module _ (out : List ℕ) (p : ℕ) (s : List ℕ) (i : ℕ) (h : i < length s) where
   -- one byte more
-  step : putOf out p (hexOf (drop i s)) ≡ putOf (set (set out p (glyphOf (getD s i 0 / 16))) (p + 1) (glyphOf (getD s i 0 % 16))) (p + 2) (hexOf (drop (i + 1) s))
-  unfolding putOf hexOf
-  step = let e : p + 2 ≡ suc (suc p) = omega arith in rw (e, add-one p, add-one i, drop-cons s i 0 h)
+  step : write out p (hexOf (drop i s)) ≡ write (set (set out p (glyphOf (getD s i 0 / 16))) (p + 1) (glyphOf (getD s i 0 % 16))) (p + 2) (hexOf (drop (i + 1) s))
+  unfolding hexOf
+  step = let e : p + 2 ≡ suc (suc p) = omega arith in rw (e, add-one p, add-one i, drop-cons s i 0 h) (write-set out p _ _ ∙ write-set _ (suc p) _ _)
 
   -- a byte's first digit, and no room for more
-  tail : length out ≤ p + 1 → putOf out p (hexOf (drop i s)) ≡ putOf out p (glyphOf (getD s i 0 / 16) ∷ [])
-  unfolding putOf hexOf
-  tail k =
-      let m = set out p (glyphOf (getD s i 0 / 16)) in
-      let rest = glyphOf (getD s i 0 % 16) ∷ hexOf (drop (suc i) s) in
-      let e : min (length rest) (length m - suc p) ≡ 0 = simp length-set (omega arith) in
-      rw (drop-cons s i 0 h) (put-none m (suc p) rest e)
+  tail : length out ≤ p + 1 → write out p (hexOf (drop i s)) ≡ write out p (glyphOf (getD s i 0 / 16) ∷ [])
+  unfolding hexOf
+  tail k = rw (drop-cons s i 0 h) (write-past out p (_ ∷ []) _ k)
 
 cut : (at size n i p : ℕ) → i ≡ (n - at) / 2 → i < size → p ≡ at + 2 * i → p + min 1 (n - p) ≡ at + min (2 * size) (n - at)
 cut at size n i p e h k = omega arith
 
 abbrev Inv-loop : tie.InvT-loop
 Inv-loop bytes out₀ at n p₀ i₀ out p i =
-    (i ≤ n) × (p ≡ at + 2 * i) × (length out ≡ length out₀) × (putOf out₀ at (hexOf bytes) ≡ putOf out p (hexOf (drop i bytes)))
+    (i ≤ n) × (p ≡ at + 2 * i) × (length out ≡ length out₀) × (write out₀ at (hexOf bytes) ≡ write out p (hexOf (drop i bytes)))
 
 abbrev μ-loop : tie.MeasureT-loop
 μ-loop bytes out₀ at n p₀ i₀ out p i = n - i
@@ -59,7 +57,6 @@ same-length : tie.Need-same-length Inv-loop μ-loop
 same-length c = c .before .before .put .kept .1 .0 ∙ c .before .before .before .before .before .before .before .before .before .loop .inv .2
 
 returns : tie.Need-returns Inv-loop μ-loop
-unfolding endOf
 returns c =
     let b = c .before .before .put .ensures in
     let g = c .before .before .before .before .before in
@@ -76,14 +73,14 @@ same-length-2 : tie.Need-same-length-2 Inv-loop μ-loop
 same-length-2 c = c .before .before .loop .inv .2
 
 returns-2 : tie.Need-returns-2 Inv-loop μ-loop
-unfolding putOf endOf hexOf
+unfolding hexOf
 returns-2 c =
     let l = c .before .before .loop in
     let s = c .before .before .before .before .before .before .before .args in
     let h : length (s .bytes .now) ≤ l .i = omega arith in
     let none : drop (l .i) (s .bytes .now) ≡ [] = drop-of-length-le (s .bytes .now) h in
     record {
-      buffer = sym (l .inv .3 ∙ rw none);
+      buffer = sym (l .inv .3 ∙ rw none (write-none (l .out) (l .p)));
       next = rw (hex-length (s .bytes .now)) (omega arith);
     }
 
