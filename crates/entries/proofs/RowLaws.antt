@@ -3,7 +3,7 @@
 use mathlib.Core.Path.{_≡_, refl, sym, ap, _∙_}
 use mathlib.Core.Bool.{Bool, true, false, cond, _&&_}
 use mathlib.Core.List.{List, [], _∷_, _++_, append-nil, append-assoc}
-use Prim.Native.Nat.{ℕ, suc, _+_, _≤_, _<_}
+use Prim.Native.Nat.{ℕ, suc, _+_, _-_, _≤_, _<_}
 use native.Mathlib.Nat.{le-of-lt}
 use native.Mathlib.Numerals.{add-one}
 use native.Mathlib.Omega.{arith}
@@ -13,15 +13,20 @@ use lib.Seq.{take-suc-set, length-take-le}
 use borrow.Author.Tests.{leb-true, ltb-true}
 use denote.Enum.Declared.{tagOf}
 use types.Run.{OneOf}
+use Rattle.cbor.specs.declared.Next.{Next}
+use Rattle.cbor.specs.declared.Next.the-variants.{At, Bad}
+use Rattle.cbor.specs.Cbor.{repeat, pair, value}
+use Rattle.cbor.proofs.Repeat.{Left}
+use Rattle.cbor.proofs.Repeat as repeats
 use Rattle.keys.specs.Keys.{part, keysAt, twice}
 use Rattle.entries.specs.declared.Entry.{Entry}
 use Rattle.entries.specs.declared.Entry.the-variants.{Keyed, Other, Broken}
-use Rattle.entries.specs.Entries.{contents}
+use Rattle.entries.specs.Entries.{nextOf, entryAt, entries, contents}
 use Rattle.entries.specs.Row.{kept, rowDouble, roomFor, keptCount, keptStarts, keptStops, Keeps, RowAnswers}
 use Rattle.entries.proofs.Entry.{the-type}
 use Rattle.entries.proofs.Folds.{not-keyed}
 use Rattle.entries.proofs.Bools.{and-left, and-right}
-use Rattle.entries.proofs.Walk.{contents-more}
+use Rattle.entries.proofs.Walk.{entry-pair, ends, breaks, goes, contents-more}
 
 suc-same : {m n : ℕ} → suc m ≡ suc n → m ≡ n
 suc-same e = omega arith
@@ -34,7 +39,7 @@ module _ (s : List ℕ) where
   snoc (x ∷ xs) [] a b h = absurd (omega arith)
   snoc (x ∷ xs) (y ∷ ys) a b h = ap (λ (l : List (List ℕ)). part s x y ∷ l) (snoc xs ys a b (suc-same h))
 
-  pub kept-more : (starts stops : List ℕ) (k a b : ℕ) → k < length starts → k < length stops → kept s (set starts k a) (set stops k b) (k + 1) ≡ kept s starts stops k ++ (part s a b ∷ [])
+  kept-more : (starts stops : List ℕ) (k a b : ℕ) → k < length starts → k < length stops → kept s (set starts k a) (set stops k b) (k + 1) ≡ kept s starts stops k ++ (part s a b ∷ [])
   unfolding kept
   kept-more starts stops k a b h j =
       rw (add-one, take-suc-set starts k a h, take-suc-set stops k b j)
@@ -55,13 +60,13 @@ module _ (starts stops : List ℕ) (k : ℕ) (e : Entry) where
   unfolding keptCount keptStarts keptStops
   no-key h = record { count = rw (not-keyed e h); starts-after = rw (not-keyed e h); stops-after = rw (not-keyed e h) }
 
--- What the walk needs of it: rows as long as before and, if r is not past their end, the k keys of before and then the entry's.
-pub record More (starts stops starts′ stops′ : List ℕ) (k : ℕ) (e : Entry) (r : ℕ) : Type 0 where
-  pub long : length starts′ ≡ length starts
-  pub long′ : length stops′ ≡ length stops
-  pub before : r ≤ length starts → k ≤ length starts
-  pub within : r ≤ length starts → k ≤ length stops → r ≤ length stops
-  pub more : r ≤ length starts → (s : List ℕ) → kept s starts′ stops′ r ≡ kept s starts stops k ++ contents s (e ∷ [])
+-- What a walk needs of it: rows as long as before and, if r is not past their end, the k keys of before and then the entry's.
+record More (starts stops starts′ stops′ : List ℕ) (k : ℕ) (e : Entry) (r : ℕ) : Type 0 where
+  long : length starts′ ≡ length starts
+  long′ : length stops′ ≡ length stops
+  before : r ≤ length starts → k ≤ length starts
+  within : r ≤ length starts → k ≤ length stops → r ≤ length stops
+  more : r ≤ length starts → (s : List ℕ) → kept s starts′ stops′ r ≡ kept s starts stops k ++ contents s (e ∷ [])
 
 module _ (starts stops : List ℕ) (k : ℕ) where
   past : (n : ℕ) → n + 1 ≤ n → ⊥
@@ -101,29 +106,67 @@ module _ (starts stops : List ℕ) (k : ℕ) where
   more-of (Other q) = more-none (Other q) (λ s. refl)
   more-of Broken = more-none Broken (λ s. refl)
 
-  pub keeps-more : (starts′ stops′ : List ℕ) (e : Entry) (r : ℕ) → Keeps starts stops starts′ stops′ k e r → More starts stops starts′ stops′ k e r
+  keeps-more : (starts′ stops′ : List ℕ) (e : Entry) (r : ℕ) → Keeps starts stops starts′ stops′ k e r → More starts stops starts′ stops′ k e r
   keeps-more starts′ stops′ e r h = rw (h .count, h .starts-after, h .stops-after) (more-of e)
 
--- A row under way: the keys of the entries es are the k kept and then those of the entries still to come.
-pub record Under (s : List ℕ) (es rest : List Entry) (starts stops : List ℕ) (k : ℕ) : Type 0 where
-  pub within : k ≤ length starts → k ≤ length stops
-  pub same : k ≤ length starts → contents s es ≡ kept s starts stops k ++ contents s rest
+-- A walk over the n entries from `at` on with a row: `left` of them are to come, from p on, and if k is not past the row's end, the keys
+-- are the k kept and then those to come.
+module _ (s : List ℕ) (levels n at : ℕ) where
+  pub record Walking (starts₀ stops₀ starts stops : List ℕ) (p left k : ℕ) : Type 0 where
+    pub to-come : Left (pair s (value s levels)) n at left p
+    pub within : k ≤ length starts → k ≤ length stops
+    pub same : k ≤ length starts → contents s (entries s levels n at) ≡ kept s starts stops k ++ contents s (entries s levels left p)
+    pub long : length starts ≡ length starts₀
+    pub long′ : length stops ≡ length stops₀
 
-module _ (s : List ℕ) (es : List Entry) where
-  pub under-none : (starts stops : List ℕ) → Under s es es starts stops 0
+  -- one turn: e is the first to come, and the walk goes on behind it
+  pub record Turn (starts₀ stops₀ starts stops : List ℕ) (p left : ℕ) (e : Entry) (q r : ℕ) : Type 0 where
+    pub first : entries s levels left p ≡ e ∷ entries s levels (left - 1) q
+    pub on : Walking starts₀ stops₀ starts stops q (left - 1) r
+
+  -- the end: no entry is to come, and the keys are those kept
+  pub record Over (starts stops : List ℕ) (p left k : ℕ) (end : Next) : Type 0 where
+    pub none : entries s levels left p ≡ []
+    pub place : end ≡ repeat n (pair s (value s levels)) at
+    pub within : k ≤ length starts → k ≤ length stops
+    pub same : k ≤ length starts → contents s (entries s levels n at) ≡ kept s starts stops k
+
+  pub begun : (starts stops : List ℕ) → Walking starts stops starts stops at n 0
   unfolding kept keysAt
-  under-none starts stops = record { within = λ h. omega arith; same = λ h. refl }
+  begun starts stops = record { to-come = refl; within = λ h. omega arith; same = λ h. refl; long = refl; long′ = refl }
 
-  pub under-more : (e : Entry) (rest : List Entry) (starts stops starts′ stops′ : List ℕ) (k r : ℕ) → Under s es (e ∷ rest) starts stops k → More starts stops starts′ stops′ k e r → Under s es rest starts′ stops′ r
-  under-more e rest starts stops starts′ stops′ k r u h = record {
-    within = λ l. let m : r ≤ length starts = omega (arith, h .long) in let w = h .within m (u .within (h .before m)) in omega (arith, h .long′);
-    same = λ l. let m : r ≤ length starts = omega (arith, h .long) in
-        u .same (h .before m) ∙ rw (contents-more s e rest, ← append-assoc (kept s starts stops k) (contents s (e ∷ [])) (contents s rest), ← h .more m s);
-  }
-
-  pub under-all : (rest : List Entry) (starts stops : List ℕ) (k : ℕ) → Under s es rest starts stops k → rest ≡ [] → k ≤ length starts → contents s es ≡ kept s starts stops k
+module _ {s : List ℕ} {levels n at : ℕ} {starts₀ stops₀ starts stops : List ℕ} {p left k : ℕ} (w : Walking s levels n at starts₀ stops₀ starts stops p left k) where
+  over : (end : Next) → entries s levels left p ≡ [] → end ≡ repeat n (pair s (value s levels)) at → Over s levels n at starts stops p left k end
   unfolding contents
-  under-all rest starts stops k u e h = u .same h ∙ rw (e, append-nil)
+  over end e h = record { none = e; place = h; within = w .within; same = λ l. w .same l ∙ rw (e, append-nil) }
+
+  pub finished : left ≡ 0 → Over s levels n at starts stops p left k (At p)
+  finished h = over (At p) (ends s levels left p h) (repeats.ends _ n at left p (w .to-come) h)
+
+  -- by what `read_entry`, `next_of` and `keep` answer
+  module _ {e : Entry} {x : Next} (some : 0 < left) (read : e ≡ entryAt s levels p) (after : x ≡ nextOf e) where
+    pair-after : pair s (value s levels) p ≡ x
+    pair-after = entry-pair s levels p ∙ rw (← read) (sym after)
+
+    pub broken : x ≡ Bad → Over s levels n at starts stops p left k Bad
+    broken h = over Bad (breaks s levels left p e x some read after h) (repeats.stops _ n at left p (w .to-come) some (pair-after ∙ h))
+
+    pub turn : {q r : ℕ} {starts′ stops′ : List ℕ} → x ≡ At q → Keeps starts stops starts′ stops′ k e r → Turn s levels n at starts₀ stops₀ starts′ stops′ p left e q r
+    turn {q} {r} {starts′} {stops′} h g =
+        let f = goes s levels left p e x some read after q h in
+        let m = keeps-more starts stops k starts′ stops′ e r g in
+        let b : r ≤ length starts′ → r ≤ length starts = λ l. omega (arith, m .long) in
+        record {
+          first = f;
+          on = record {
+            to-come = repeats.goes _ n at left p (w .to-come) q some (pair-after ∙ h);
+            within = λ l. omega (arith, m .within (b l) (w .within (m .before (b l))), m .long′);
+            same = λ l.
+                w .same (m .before (b l)) ∙ rw (f, contents-more s e _, ← append-assoc (kept s starts stops k) (contents s (e ∷ [])) (contents s _), ← m .more (b l) s);
+            long = m .long ∙ w .long;
+            long′ = m .long′ ∙ w .long′;
+          };
+        }
 
 -- a row that has the keys of the entries answers for them
 in-row : (P : Bool) (Q : Bool) (a b : Bool) → (P ≡ true → a ≡ b) → cond (P && Q) a b ≡ b

@@ -1,5 +1,5 @@
--- Walking a map's entries: an entry is the pair that the reader of maps reads, so the walk moves ahead, and a step takes one entry off the
--- front of the list. What a list's tests give then follows by the list's own definitions.
+-- Walking a map's entries: an entry is the pair that the reader of maps reads, and a step takes one entry off the front of the list.
+-- What a list's tests give then follows by the list's own definitions.
 -- Assumes nothing.
 use mathlib.Core.Path.{_≡_, refl, sym, _∙_}
 use mathlib.Core.Bool.{Bool, true, false, cond, _||_}
@@ -7,13 +7,11 @@ use mathlib.Core.List.{List, [], _∷_, _++_}
 use Prim.Native.Nat.{ℕ, zero, suc, _-_, _<_}
 use native.Mathlib.Nat.{not-suc-le-zero}
 use native.Mathlib.Numerals.{sub-one}
-use lib.ListN.{length}
 use Rattle.cbor.specs.declared.Item.{Item}
 use Rattle.cbor.specs.declared.Item.the-variants.{Unsigned, Negative, Bytes, Simple, Array, Map, Set, Refused}
 use Rattle.cbor.specs.declared.Next.{Next}
 use Rattle.cbor.specs.declared.Next.the-variants.{At, Bad}
 use Rattle.cbor.specs.Cbor.{Reader, andThen, scalarOf, itemAt, key, pair, value}
-use Rattle.cbor.proofs.Ahead.{pair-moves, value-moves, nearer}
 use Rattle.keys.specs.Keys.{part, equal, among, twice}
 use Rattle.entries.specs.declared.Entry.{Entry}
 use Rattle.entries.specs.declared.Entry.the-variants.{Keyed, Other, Broken}
@@ -53,9 +51,6 @@ module _ (s : List ℕ) (l : ℕ) where
   unfolding pair key entryAt
   entry-pair p = sym (next-entry (value s l) (itemAt s p))
 
-  pub entry-nearer : (p q : ℕ) (e : Entry) → e ≡ entryAt s l p → nextOf e ≡ At q → length s - q < length s - p
-  entry-nearer p q e h k = nearer s (pair-moves s (value-moves s l)) p q (entry-pair p ∙ rw (← h) k)
-
   more : (n p : ℕ) → 0 < n → entries s l n p ≡ onward (entryAt s l p) (entries s l (n - 1))
   unfolding entries
   more zero p h = absurd (not-suc-le-zero h)
@@ -65,12 +60,13 @@ module _ (s : List ℕ) (l : ℕ) where
   unfolding entries
   ends n p h = rw h
 
-  module _ (n p : ℕ) (e : Entry) (h : 0 < n) (k : e ≡ entryAt s l p) where
-    pub breaks : nextOf e ≡ Bad → entries s l n p ≡ []
-    breaks b = more n p h ∙ rw (← k) (onward-bad e _ b)
+  -- by what `read_entry` and `next_of` answer
+  module _ (n p : ℕ) (e : Entry) (x : Next) (h : 0 < n) (k : e ≡ entryAt s l p) (j : x ≡ nextOf e) where
+    pub breaks : x ≡ Bad → entries s l n p ≡ []
+    breaks b = more n p h ∙ rw (← k) (onward-bad e _ (sym j ∙ b))
 
-    pub goes : (q : ℕ) → nextOf e ≡ At q → entries s l n p ≡ e ∷ entries s l (n - 1) q
-    goes q b = more n p h ∙ rw (← k) (onward-at e _ q b)
+    pub goes : (q : ℕ) → x ≡ At q → entries s l n p ≡ e ∷ entries s l (n - 1) q
+    goes q b = more n p h ∙ rw (← k) (onward-at e _ q (sym j ∙ b))
 
 -- the keys' contents of a list of entries, by its first
 module _ (s : List ℕ) where

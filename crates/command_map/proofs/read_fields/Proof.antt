@@ -1,99 +1,51 @@
 -- `command_map::read_fields` meets its contract. The loop's invariant: what is left to read, to judge and to keep is the entries from p on.
--- Assumes nothing.
-use mathlib.Core.Path.{_≡_, refl, sym, ap, _∙_}
-use mathlib.Core.List.{foldl}
-use Prim.Native.Nat.{_-_}
-use lib.ListN.{length}
+-- The measure is the number of entries left. Assumes nothing.
+use mathlib.Core.Path.{_≡_, refl, sym, _∙_}
+use mathlib.Core.List.{List, foldl}
+use Prim.Native.Nat.{ℕ}
 use native.Mathlib.Omega.{arith}
 use borrow.Author.Needs.{needs}
-use Rattle.cbor.specs.Cbor.{pair, value}
-use Rattle.cbor.proofs.Repeat as repeats
-use Rattle.entries.specs.Entries.{nextOf, entries}
-use Rattle.entries.proofs.Walk.{entry-pair, entry-nearer, ends, breaks, goes}
-use Rattle.entries.proofs.RowLaws.{keeps-more, Under, under-none, under-more, under-all}
-use Rattle.command_map.specs.Walk.{noneJudged, judge}
+use Rattle.cbor.specs.declared.Next.{Next}
+use Rattle.entries.specs.Entries.{entries}
+use Rattle.entries.proofs.RowLaws.{Walking, Over, begun, finished, broken, turn}
+use Rattle.command_map.specs.declared.Judged.{Judged}
+use Rattle.command_map.specs.Walk.{noneJudged, judge, Walked}
 use Rattle.command_map.proofs.read_fields.Statement.{statement}
 use Rattle.command_map.proofs.read_fields.Tie as tie
 
 abbrev Inv-loop : tie.InvT-loop
 Inv-loop s n at starts₀ stops₀ p₀ left₀ kept₀ judged₀ starts stops p left kept judged =
-    repeats.Left (pair s (value s 7)) n at left p
-    × (foldl (judge s) noneJudged (entries s 7 n at) ≡ foldl (judge s) judged (entries s 7 left p))
-    × Under s (entries s 7 n at) (entries s 7 left p) starts stops kept
-    × (length starts ≡ length starts₀)
-    × (length stops ≡ length stops₀)
+    (foldl (judge s) noneJudged (entries s 7 n at) ≡ foldl (judge s) judged (entries s 7 left p)) × Walking s 7 n at starts₀ stops₀ starts stops p left kept
 
 abbrev μ-loop : tie.MeasureT-loop
-μ-loop s n at starts₀ stops₀ p₀ left₀ kept₀ judged₀ starts stops p left kept judged = length s - p
+μ-loop s n at starts₀ stops₀ p₀ left₀ kept₀ judged₀ starts stops p left kept judged = left
 
-loop-holds : tie.Need-loop-holds Inv-loop μ-loop
-loop-holds c = (refl, refl, under-none _ _ _ _, refl, refl)
+-- what the end of the walk shows
+walked : {s : List ℕ} {n at p left k : ℕ} {starts stops : List ℕ} {end : Next} {j : Judged} → foldl (judge s) noneJudged (entries s 7 n at) ≡ foldl (judge s) j (entries s 7 left p)
+    → Over s 7 n at starts stops p left k end → Walked s n at starts stops (record { end = end; judged = j; kept = k })
+walked h o = record { ends = o .place; judged = sym (h ∙ rw (o .none)); same = o .same }
 
 returns : tie.Need-returns Inv-loop μ-loop
 returns c =
-    let e = c .before .before .before in
-    let l = e .before in
-    let i = l .before .loop .inv in
-    let bad = sym (c .before .before .next-of .ensures) ∙ c .enum-told .given .1 in
-    let b = breaks _ _ _ _ _ (l .loop-test .taken) (e .read-entry .ensures) bad in
-    record {
-      ends = repeats.stops _ _ _ _ _ (i .0) (l .loop-test .taken) (entry-pair _ _ _ ∙ ap nextOf (sym (e .read-entry .ensures)) ∙ bad);
-      judged = sym (i .1 ∙ rw b);
-      same = under-all _ _ _ _ _ _ (i .2) b;
-    }
-
-loop-less : tie.Need-loop-less Inv-loop μ-loop
-loop-less c =
-    let q = c .before .before .before .before .before .before .before .before in
-    entry-nearer _ _ _ _ _ (q .before .before .before .before .read-entry .ensures) (sym (q .before .before .before .next-of .ensures) ∙ q .before .next .given .1)
+    let n = c .before .before in
+    let i = n .before .before .before .loop .inv in
+    walked (i .0) (broken (i .1) (n .before .before .loop-test .taken) (n .before .read-entry .ensures) (n .next-of .ensures) (c .enum-told .given .1))
 
 loop-again : tie.Need-loop-again Inv-loop μ-loop
 loop-again c =
-    let k = c .before .before .before .before in
-    let j = k .before .before .before in
-    let q = j .before in
-    let e = q .before .before .before .before in
-    let l = e .before in
-    let i = l .before .loop .inv in
-    let on = sym (q .before .before .before .next-of .ensures) ∙ q .before .next .given .1 in
-    let g = goes _ _ _ _ _ (l .loop-test .taken) (e .read-entry .ensures) _ on in
-    let m = keeps-more _ _ _ _ _ _ _ (k .keep .ensures) in (
-      repeats.goes _ _ _ _ _ (i .0) _ (l .loop-test .taken) (entry-pair _ _ _ ∙ ap nextOf (sym (e .read-entry .ensures)) ∙ on),
-      i .1 ∙ rw (g, j .judge .ensures),
-      under-more _ _ _ _ _ _ _ _ _ _ (rw g at (i .2)) m,
-      m .long ∙ i .3,
-      m .long′ ∙ i .4,
-    )
+    let j = c .before .before .before .before .before .before .before in
+    let n = j .before .before .before .before in
+    let i = n .before .before .before .loop .inv in
+    let g = turn (i .1) (n .before .before .loop-test .taken) (n .before .read-entry .ensures) (n .next-of .ensures) (j .before .before .next .given .1) (c .before .before .before .before .keep .ensures) in
+    (i .0 ∙ rw (g .first, j .judge .ensures), g .on)
 
 returns-2 : tie.Need-returns-2 Inv-loop μ-loop
-returns-2 c =
-    let i = c .before .loop .inv in
-    let b = ends (c .before .before .before .before .before .args .s .now) 7 (c .before .loop .left) (c .before .loop .p) (omega arith) in
-    record {
-      ends = repeats.ends _ _ _ _ _ (i .0) (omega arith);
-      judged = sym (i .1 ∙ rw b);
-      same = under-all _ _ _ _ _ _ (i .2) b;
-    }
+returns-2 c = let i = c .before .loop .inv in walked (i .0) (finished (i .1) (omega arith))
 
 pub read-fields-spec : {M : Type 1} → statement M
 read-fields-spec =
     tie.close
-    (tie.spec
-    Inv-loop
-    μ-loop
-    loop-holds
-    (λ c κs. search needs)
-    (λ c κs. search needs)
-    (λ c. search needs)
-    (λ c. search needs)
-    (λ c. search needs)
-    (λ c. search needs)
-    returns
-    (λ c κs. search needs)
-    (λ c κs. search needs)
-    (λ c. omega arith)
-    loop-less
-    loop-again
-    (λ c. search needs)
-    (λ c. search needs)
-    returns-2)
+    (tie.spec Inv-loop μ-loop (λ c. (refl, begun _ _ _ _ _ _))
+    (λ c κs. search needs) (λ c κs. search needs) (λ c. search needs) (λ c. search needs) (λ c. search needs) (λ c. search needs) returns
+    (λ c κs. search needs) (λ c κs. search needs) (λ c. omega arith) (λ c. omega arith) loop-again
+    (λ c. search needs) (λ c. search needs) returns-2)
