@@ -24,18 +24,18 @@ pub enum Checked {
 
 // The judgement of the outer map's entries read so far: whether each is allowed, the values of the first `name` and the first `args`
 // (refused items while there is none), and whether a key stands twice in an `args`.
-pub struct Judged {
-    pub allowed: bool,
-    pub name: Item,
-    pub args: Item,
-    pub double: bool,
+struct Judged {
+    allowed: bool,
+    name: Item,
+    args: Item,
+    double: bool,
 }
 
 // What the walk over the outer map found: the position after it, the judgement, and how many keys' places the row has.
-pub struct Fields {
-    pub end: Next,
-    pub judged: Judged,
-    pub kept: usize,
+struct Fields {
+    end: Next,
+    judged: Judged,
+    kept: usize,
 }
 
 // Whether an item is a name: a byte string of 1 to 64 bytes.

@@ -27,7 +27,7 @@ pub enum Keys {
 }
 
 // What putting keys' places into a row found: byte strings only, and how many places there are, or another key.
-pub enum Kept {
+enum Kept {
     Strings(usize),
     Mixed,
 }
