@@ -17,7 +17,7 @@ pub struct Header {
     pub stream: u8,
     pub stream_flags: u8,
     pub kind: u8,
-    pub flags: u8,
+    flags: u8,
 }
 
 // Whether a flag of this value is set.

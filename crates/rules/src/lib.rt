@@ -17,11 +17,11 @@ ghost use Rattle.rules.specs.Stages.{metIn, viewed, headRules, lastRules
 // What a frame meets: whether its stream is open; the index of its request's slot, 8 where it has none; the request's phase and data bit;
 // whether no slot is free; and, of a command frame, the index of its slot and how many bytes of the command the slot's part holds.
 pub struct Met {
-    pub is_open: bool,
+    is_open: bool,
     pub place: usize,
-    pub phase: Phase,
-    pub databit: bool,
-    pub full: bool,
+    phase: Phase,
+    databit: bool,
+    full: bool,
     pub target: usize,
     pub held: usize,
 }
