@@ -1,9 +1,9 @@
 -- Bytes put into a list from a place on: the length stays, they stand where they were put, and bytes elsewhere are as they were.
 -- Assumes nothing.
-use Prim.Native.Nat.{ℕ, zero, suc, _+_, _-_, _≤_, _<_}
-use native.Mathlib.Nat.{zero-add, suc-add, add-assoc}
+use Prim.Native.Nat.{ℕ, zero, suc, _+_, _-_, _≤_, _<_, min}
+use native.Mathlib.Nat.{zero-add, suc-add, add-assoc, eq-zero-or-pos}
 use mathlib.Core.Path.{_≡_, refl, sym, ap, _∙_}
-use mathlib.Core.Logic.{_⊎_, inl, inr}
+use mathlib.Core.Logic.{_⊎_, inl, inr, ⊎-elim}
 use mathlib.Core.List.{List, [], _∷_, _++_}
 use native.Mathlib.Omega.{arith}
 use lib.ListN.{length, take, drop, getD, set, length-take, length-drop, take-append-drop}
@@ -85,6 +85,13 @@ write-twice (x ∷ xs) zero (b ∷ bs) t = rw zero-add (ap (λ (l : List ℕ). b
 -- bytes that would stand past the end are left out
 pub write-past : (w : List ℕ) (i : ℕ) (s t : List ℕ) → length w ≤ i + length s → write w i (s ++ t) ≡ write w i s
 write-past w i s t h = rw (← write-twice w i s t) (write-out (write w i s) (i + length s) t (omega (arith, length-write w i s)))
+
+-- from where k bytes end, and from where they would end with room for all of them, the same is put
+pub write-behind : (w : List ℕ) (i k : ℕ) (s : List ℕ) → write w (i + min k (length w - i)) s ≡ write w (i + k) s
+write-behind w i k s =
+    ⊎-elim (λ h. let e : min k (length w - i) ≡ k = omega arith in rw e)
+    (λ h. write-out w (i + min k (length w - i)) s (omega arith) ∙ sym (write-out w (i + k) s (omega arith)))
+    (eq-zero-or-pos (k - (length w - i)))
 
 -- the bytes before a place and those put there
 pub take-written : (w : List ℕ) (i : ℕ) (s : List ℕ) → i + length s ≤ length w → take (i + length s) (write w i s) ≡ take i w ++ s

@@ -3,28 +3,16 @@
 use mathlib.Core.Path.{_≡_, refl, sym, ap, _∙_}
 use mathlib.Core.Bool.{Bool, true, false, cond}
 use mathlib.Core.List.{List, [], _∷_, _++_}
-use Prim.Native.Nat.{ℕ, zero, suc, _+_, _-_, _*_, _/_, _%_, _≤_, _<_, min}
+use Prim.Native.Nat.{ℕ, zero, suc, _+_, _-_, _*_, _/_, _%_, _≤_, min}
 use native.Mathlib.Omega.{arith}
-use borrow.Author.Tests.{leb-true, leb-false}
-use lib.Dec.{leb, ltb}
+use lib.Dec.{ltb}
 use lib.ListN.{length, take, length-append}
-use Rattle.buffer.specs.Bytes.{write}
-use Rattle.buffer.proofs.WriteLaws.{length-write, write-none, write-out, write-twice, take-front}
+use Rattle.buffer.proofs.WriteLaws.{length-write, write-none, write-twice, write-behind, take-front}
 use Rattle.text.specs.Text.{Added, hexOf, decimalBefore, decimalOf}
 
 -- no text is put
 pub nothing : (out : List ℕ) (at : ℕ) → Added out at [] out at
 nothing out at = record { buffer = sym (write-none out at); next = omega arith }
-
--- where a text of k bytes ends, and where it would end with room for all of it, the same is put
-cut : (out : List ℕ) (at k : ℕ) (u : List ℕ) (fits : Bool) → leb k (length out - at) ≡ fits → write out (at + min k (length out - at)) u ≡ write out (at + k) u
-cut out at k u true e =
-    let h : k ≤ length out - at = leb-true k (length out - at) e in
-    let m : min k (length out - at) ≡ k = omega arith in
-    rw m
-cut out at k u false e =
-    let h : length out - at < k = leb-false k (length out - at) e in
-    write-out out (at + min k (length out - at)) u (omega arith) ∙ sym (write-out out (at + k) u (omega arith))
 
 ends : (at t u n p : ℕ) → p ≡ at + min t (n - at) → p + min u (n - p) ≡ at + min (t + u) (n - at)
 ends at t u n p e = omega arith
@@ -35,7 +23,7 @@ join {old} {mid} {new} {t} {u} {at} {p} {r} a b =
     let same : length mid ≡ length old = ap length (a .buffer) ∙ length-write old at t in
     let e : p ≡ at + min (length t) (length mid - at) = omega (arith, a .next) in
     record {
-      buffer = b .buffer ∙ rw (e, ← write-twice old at t u, ← a .buffer) (cut mid at (length t) u (leb (length t) (length mid - at)) refl);
+      buffer = b .buffer ∙ rw (e, ← write-twice old at t u, ← a .buffer) (write-behind mid at (length t) u);
       next = b .next ∙ rw (length-append t u, ← same) (ends at (length t) (length u) (length mid) p e);
     }
 
