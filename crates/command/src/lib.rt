@@ -9,13 +9,13 @@ ghost use Rattle.command.specs.Command.{checked, numberOf};
 ghost use Rattle.command.specs.Lookup.{placeNumber, numberNumber, numberValue, signedOf, nameOf, argumentAt, partAt, integerAt};
 
 // Where an argument's value starts and stops, or the refusal number.
-pub enum Place {
+enum Place {
     Found(usize, usize),
     NotFound(u32),
 }
 
 // An argument as a signed integer, or the refusal number.
-pub enum Number {
+enum Number {
     Whole(i64),
     NoNumber(u32),
 }
