@@ -14,7 +14,7 @@ use Rattle.buffer.proofs.WriteLaws.{own-part, write-none}
 use Rattle.requests.specs.declared.Slot.{Slot}
 use Rattle.requests.specs.Phases.{freeSlot}
 use Rattle.frame.specs.declared.Header.{Header}
-use Rattle.frame.specs.Limits.{slotCount, partStart}
+use Rattle.frame.specs.Limits.{maxCommand, slotCount, partStart}
 use Rattle.frame.specs.Header.{lengthOf, headerOf}
 use Rattle.frame.specs.Frame.{Frame, framed, frameOf, begins, ends, isType, isNew, isMore, dataFollows, isLast, flagsFit}
 use Rattle.frame.specs.Records.{requestRecord}
@@ -132,7 +132,7 @@ module _ {s : Channel} {w : List ℕ} (g : HasFrame s w) (count : length (s .slo
       unfolding isCommand isType frameOf
       is-command = eq-eqb (h .kind) 1 k
 
-      pub has-room : (m .target < 8) × (size ≤ 2048)
+      pub has-room : (m .target < slotCount) × (size ≤ maxCommand)
       unfolding rules placeOf lowestFree target frameOf isNew
       has-room =
           let e′ : firstBroken headRules f v ≡ 0 = sym head-same ∙ e in

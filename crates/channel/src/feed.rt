@@ -5,6 +5,7 @@ ghost use mathlib.Core.Path.{_≡_};
 ghost use mathlib.Core.Bool.{true};
 ghost use Prim.Native.Nat.{_≤_, _<_};
 ghost use lib.ListN.{length};
+ghost use Rattle.frame.specs.Limits.{workArea};
 ghost use Rattle.frame.specs.Header.{lengthOf};
 ghost use Rattle.session.specs.Session.{read};
 ghost use Rattle.channel.specs.Channel.{channel, fedWith, feedOf, shape};
@@ -42,7 +43,7 @@ fn take_byte(pending: usize, work: &mut [u8], b: u8, room: usize) -> Piece
 {
     let size = frame::payload_length(&work[..]);
     if pending - 7 == size {
-        if room < 4103 {
+        if room < frame::LONGEST_RECORD {
             return Piece {
                 number: 5,
                 taken: 0,
@@ -57,7 +58,7 @@ fn take_byte(pending: usize, work: &mut [u8], b: u8, room: usize) -> Piece
         };
     }
     work[pending] = b;
-    if 4096 < size {
+    if frame::MAX_PAYLOAD < size {
         return Piece {
             number: 11,
             taken: 1,
@@ -73,7 +74,7 @@ fn take_byte(pending: usize, work: &mut [u8], b: u8, room: usize) -> Piece
 
 // Takes the bytes up to the next one that is judged, and that one.
 fn take_piece(pending: usize, work: &mut [u8], rest: &[u8], room: usize) -> Piece
-    requires { ⌜ (20488 ≤ length (now work)) × Held pending (now work) ⌝ }
+    requires { ⌜ (workArea ≤ length (now work)) × Held pending (now work) ⌝ }
     ensures { λ r. ⌜ partWith r (now (work .exit)) ≡ pieceOf pending (now (work .entry)) (now (rest .entry)) room ⌝ }
 {
     let q = quiet(pending, &work[..], rest.len());
@@ -108,7 +109,7 @@ impl Channel {
 
     // Reads the input, piece after piece. The state is handed over only where a whole frame is judged.
     fn read(self, work: &mut [u8], input: &[u8], out: &mut [u8]) -> Fed
-        requires { ⌜ (20488 ≤ length (now work)) × (self .dead ≡ 0) × (shape (receiver self (now work)) ≡ true) ⌝ }
+        requires { ⌜ (workArea ≤ length (now work)) × (self .dead ≡ 0) × (shape (receiver self (now work)) ≡ true) ⌝ }
         ensures { λ r. ⌜ fedWith r (now (work .exit)) (now (out .exit)) ≡ putFrom (now (out .entry)) 0 (read channel (receiver self (now (work .entry))) (length (now (out .entry))) (now (input .entry))) ⌝ }
     {
         let mut next = self;
@@ -144,7 +145,7 @@ impl Channel {
             return true;
         }
         let n = frame::payload_length(work);
-        if 4096 < n {
+        if frame::MAX_PAYLOAD < n {
             return false;
         }
         self.pending < 8 + n
@@ -155,7 +156,7 @@ impl Channel {
     pub fn feed(self, work: &mut [u8], input: &[u8], out: &mut [u8]) -> Fed
         ensures { λ r. ⌜ fedWith r (now (work .exit)) (now (out .exit)) ≡ feedOf self (now (work .entry)) (now (input .entry)) (now (out .entry)) ⌝ }
     {
-        if work.len() < 20488 {
+        if work.len() < frame::WORK_AREA {
             return self.answer(2, 0, 0);
         }
         if !self.is_shaped(&work[..]) {
@@ -164,7 +165,7 @@ impl Channel {
         if self.dead != 0 {
             return self.answer(self.dead, 0, 0);
         }
-        if out.len() < 4103 {
+        if out.len() < frame::LONGEST_RECORD {
             return self.answer(1, 0, 0);
         }
         self.read(work, input, out)

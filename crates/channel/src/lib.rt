@@ -9,7 +9,7 @@ ghost use mathlib.Core.Path.{_≡_};
 ghost use Prim.Native.Nat.{_+_, _≤_, _<_};
 ghost use lib.ListN.{length, take, drop};
 ghost use Rattle.buffer.specs.Bytes.{write};
-ghost use Rattle.frame.specs.Limits.{partStart};
+ghost use Rattle.frame.specs.Limits.{maxCommand, slotCount, workArea, partStart};
 ghost use Rattle.channel.specs.Receiver.{freshState};
 ghost use Rattle.channel.specs.Channel.{deadFits, plainShape, finishOf, finished, fedWith};
 ghost use Rattle.channel.specs.Steps.{metOf, slotSet, answerWith, refusedWith, acceptedWith, judgedInto, HasFrame, Passed};
@@ -70,7 +70,7 @@ impl Channel {
     fn is_plain(self) -> bool
         ensures { λ r. ⌜ r ≡ plainShape self ⌝ }
     {
-        if 4103 < self.pending {
+        if frame::FRAME_AREA <= self.pending {
             return false;
         }
         let slots = self.slots;
@@ -138,14 +138,14 @@ impl Channel {
 
 // Puts the frame's payload of n bytes into a slot's part of the work area, behind the bytes that the part holds.
 fn place(work: &mut [u8], slot: usize, held: usize, n: usize)
-    requires { ⌜ (20488 ≤ length (now work)) × (slot < 8) × (held + n ≤ 2048) ⌝ }
+    requires { ⌜ (workArea ≤ length (now work)) × (slot < slotCount) × (held + n ≤ maxCommand) ⌝ }
     ensures { λ _. ⌜ now (work .exit) ≡ write (now (work .entry)) (partStart slot + held) (take n (drop 8 (now (work .entry)))) ⌝ }
 {
-    let mut payload = [0u8; 2048];
+    let mut payload = [0u8; frame::MAX_COMMAND];
     let end = 8 + n;
     buffer::put(&mut payload, 0, &work[8..end]);
-    let start = 4104 + 2048 * slot;
-    let stop = start + 2048;
+    let start = frame::FRAME_AREA + frame::MAX_COMMAND * slot;
+    let stop = start + frame::MAX_COMMAND;
     buffer::put(&mut work[start..stop], held, &payload[..n]);
 }
 
@@ -193,7 +193,7 @@ impl Channel {
         if h.is_more() {
             return self.accepted(h, target, x, 0);
         }
-        let start = 4104 + 2048 * target;
+        let start = frame::FRAME_AREA + frame::MAX_COMMAND * target;
         let stop = start + size;
         let n = rules::command_number(&work[start..stop]);
         if n != 0 {

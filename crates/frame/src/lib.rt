@@ -10,6 +10,18 @@ ghost use Rattle.frame.specs.Frame.{framed, flag, begins, ends, isNew, i
 ghost use Rattle.frame.specs.Settings.{isIdentity};
 ghost use Rattle.frame.specs.Records.{requestRecord};
 
+// The sizes of document 01, as `Limits` of the definitions has them: the longest payload, command and record, the places for the frame
+// under way, and the work area.
+pub const MAX_PAYLOAD: usize = 4096;
+
+pub const MAX_COMMAND: usize = 2048;
+
+pub const LONGEST_RECORD: usize = 4103;
+
+pub const FRAME_AREA: usize = 4104;
+
+pub const WORK_AREA: usize = 20488;
+
 // The numbers of a frame's eight header bytes. The type is called kind here, for `type` is a word of the language.
 pub struct Header {
     pub length: usize,

@@ -13,7 +13,7 @@ ghost use lib.ListN.{length};
 type Input = [u8; 65536];
 
 // The channel's work area.
-type Work = [u8; 20488];
+type Work = [u8; frame::WORK_AREA];
 
 // The length of a piece, and of the output that is lent.
 struct Lengths {
@@ -46,7 +46,7 @@ fn main() {
         return;
     }
     let mut input = io::large_buffer();
-    let mut work = [0u8; 20488];
+    let mut work = [0u8; frame::WORK_AREA];
     // Room for sixteen records of the longest kind.
     let mut out = [0u8; 65648];
     let mut run = first();
@@ -79,7 +79,7 @@ fn asked() -> Lengths
     if 65648 < output {
         return none;
     }
-    if output < 4103 {
+    if output < frame::LONGEST_RECORD {
         return none;
     }
     Lengths { piece, output }

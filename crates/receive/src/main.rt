@@ -14,10 +14,10 @@ ghost use Prim.Native.Nat.{_≤_, _<_};
 ghost use lib.ListN.{length};
 
 // The channel's work area.
-type Work = [u8; 20488];
+type Work = [u8; frame::WORK_AREA];
 
 // An output for feed: the longest record.
-type Output = [u8; 4103];
+type Output = [u8; frame::LONGEST_RECORD];
 
 // The channel, how many bytes of the input it took, and whether reading goes on: the input lasts, nothing is refused, and the output is
 // taken.
@@ -35,8 +35,8 @@ struct Step {
 
 // A proved loop has to end, and nothing says that the input does. So the loop counts its turns down, from a number that no run uses up.
 fn main() {
-    let mut work = [0u8; 20488];
-    let mut out = [0u8; 4103];
+    let mut work = [0u8; frame::WORK_AREA];
+    let mut out = [0u8; frame::LONGEST_RECORD];
     let mut run = first();
     let mut turns = u64::MAX;
     while turns > 0 {

@@ -36,10 +36,10 @@ pub(crate) struct Ran {
 
 // Before the first line: a fresh state, and a work area of the least length that feed takes.
 pub(crate) fn first(work: &mut [u8]) -> State {
-    fill(work, 20488, 0, 7);
+    fill(work, frame::WORK_AREA, 0, 7);
     State {
         channel: Channel::fresh(),
-        size: 20488,
+        size: frame::WORK_AREA,
         asked: 0,
         written: 0,
     }

@@ -90,7 +90,7 @@ impl Slot {
                 if is_even(self.id) {
                     return false;
                 }
-                self.length <= 2048
+                self.length <= frame::MAX_COMMAND
             }
             Phase::Waiting => {
                 if is_even(self.id) {

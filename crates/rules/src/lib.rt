@@ -67,10 +67,10 @@ fn try_rule(n: u8, broken: bool, number: u8) -> u8
 fn is_long(held: usize, more: usize) -> bool
     ensures { λ r. ⌜ r ≡ ltb maxCommand (held + more) ⌝ }
 {
-    if 2048 < held {
+    if frame::MAX_COMMAND < held {
         return true;
     }
-    2048 - held < more
+    frame::MAX_COMMAND - held < more
 }
 
 // Rules 12 to 23: those that are tried before the payload is put in a slot's part.

@@ -10,7 +10,7 @@ use borrow.Author.Needs.{needs}
 use Rattle.buffer.specs.Bytes.{write}
 use Rattle.requests.specs.declared.Slot.{Slot}
 use Rattle.frame.specs.declared.Header.{Header}
-use Rattle.frame.specs.Limits.{slotCount, partStart}
+use Rattle.frame.specs.Limits.{maxCommand, slotCount, partStart}
 use Rattle.frame.specs.Header.{headerOf}
 use Rattle.frame.specs.Frame.{framed, frameOf, isMore, dataFollows}
 use Rattle.frame.specs.Records.{requestRecord}
@@ -42,7 +42,7 @@ module _ {s : Channel} {h : Header} {m : Met} {w : List ℕ} (kind : h .kind ≡
   kind-same : headerOf w .kind ≡ 1
   kind-same = rw (p .header) at kind
 
-  room : (m .target < 8) × (size ≤ 2048)
+  room : (m .target < slotCount) × (size ≤ maxCommand)
   room = rw (met-same p, p .header) (has-room (p .frame) count out done (passes-same p) kind-same)
 
   -- the work area and the slot as the calls leave them
@@ -77,7 +77,7 @@ module _ (a : tie.Start) where
   has-eight : length (a .args .self .slots) ≡ slotCount
   has-eight = eight (a .args .self) _ (a .good .0)
 
-  fits : (a .args .m .target < 8) × (a .args .m .held + a .args .h .length ≤ 2048)
+  fits : (a .args .m .target < slotCount) × (a .args .m .held + a .args .h .length ≤ maxCommand)
   fits = room (a .pre .0) (a .pre .1) has-eight [] 0
 
 place-requires : tie.Need-place-requires

@@ -5,6 +5,7 @@ use mathlib.Core.Path.{_≡_, sym, _∙_}
 use mathlib.Core.Bool.{true}
 use borrow.Author.Needs.{needs}
 use borrow.Author.Tests.{lt-ltb, le-ltb, le-leb, lt-leb, not-true, not-false}
+use Rattle.frame.specs.Limits.{maxPayload}
 use Rattle.frame.specs.Header.{lengthOf}
 use Rattle.channel.specs.Channel.{plainShape, heldShape, shape}
 use Rattle.channel.proofs.Channel.is_shaped.Statement.{statement}
@@ -26,16 +27,16 @@ unfolding shape heldShape
 returns-3 c =
     let n = c .before in
     let i = n .before .before .before in
-    let h : 4096 < lengthOf (i .before .before .before .args .work .now) = rw (n .payload-length .ensures) at (c .if3 .taken) in
-    rw (plain i, le-ltb _ 8 (n .before .if2 .left), lt-leb _ 4096 h)
+    let h : maxPayload < lengthOf (i .before .before .before .args .work .now) = rw (n .payload-length .ensures) at (c .if3 .taken) in
+    rw (plain i, le-ltb _ 8 (n .before .if2 .left), lt-leb _ maxPayload h)
 
 returns-4 : tie.Need-returns-4
 unfolding shape heldShape
 returns-4 c =
     let n = c .before .before in
     let i = n .before .before .before in
-    let h : lengthOf (i .before .before .before .args .work .now) ≤ 4096 = rw (n .payload-length .ensures) at (c .before .if3 .left) in
-    rw (plain i, le-ltb _ 8 (n .before .if2 .left), le-leb _ 4096 h, n .payload-length .ensures)
+    let h : lengthOf (i .before .before .before .args .work .now) ≤ maxPayload = rw (n .payload-length .ensures) at (c .before .if3 .left) in
+    rw (plain i, le-ltb _ 8 (n .before .if2 .left), le-leb _ maxPayload h, n .payload-length .ensures)
 
 pub is-shaped-spec : {M : Type 1} → statement M
 is-shaped-spec =
