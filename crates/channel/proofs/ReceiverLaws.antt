@@ -137,7 +137,7 @@ module _ (r : Receiver) (b : ℕ) (k : Ok r) (short : tooLong (put r b) ≡ fals
           let (a, c) = held-e r (k .held) h8 in
           (omega arith, omega (arith, not-whole))
 
-  pub still-open : Ok (put r b)
+  still-open : Ok (put r b)
   unfolding put n L
   still-open = record {
     work = rw length-set (k .work);
@@ -214,7 +214,7 @@ module _ (s : Channel) (f : Frame) (w : List ℕ) (wide : workArea ≤ length w)
 
   -- ---- refused
 
-  pub refused-ok : (n : ℕ) (v : List ℕ) → deadFits n ≡ true → workArea ≤ length v → Ok (refused n s v .next)
+  refused-ok : (n : ℕ) (v : List ℕ) → deadFits n ≡ true → workArea ≤ length v → Ok (refused n s v .next)
   unfolding refused heldShape
   refused-ok n v d l = record { work = l; count = count; pending = omega arith; slots = fit; dead = d; held = refl }
 
@@ -283,7 +283,7 @@ module _ (s : Channel) (f : Frame) (w : List ℕ) (wide : workArea ≤ length w)
     accepted-ok d = record { work = accepted-wide; count = slots-count; pending = omega arith; slots = slots-fit; dead = rw d; held = refl }
 
     -- the record is no longer than the longest
-    pub record-bound : length (f .payload) ≤ maxPayload → length (recordWith f (command s f w)) ≤ longestRecord
+    record-bound : length (f .payload) ≤ maxPayload → length (recordWith f (command s f w)) ≤ longestRecord
     unfolding recordWith recordOf command rules commandLength viewOf
     record-bound l =
         by-cond (λ v. length v ≤ longestRecord) (isCommand f && not (isMore f)) (recordOf 1 (two (f .request) ++ bit (dataFollows f) ∷ command s f w))
@@ -294,23 +294,47 @@ module _ (s : Channel) (f : Frame) (w : List ℕ) (wide : workArea ≤ length w)
         omega (arith, length-append (take (slotAt s (target s f) .length) held) (f .payload), length-take (slotAt s (target s f) .length) held))
         (λ _. by-cond (λ v. length v ≤ longestRecord) (isType 2 f) (recordOf 2 (two (f .request) ++ bit (isLast f) ∷ f .payload)) [] (λ _. omega arith) (λ _. omega arith))
 
-  judge-ok : s .dead ≡ 0 → Ok (judge s f w .next)
-  unfolding judge
-  judge-ok d = go (firstBroken rules f (viewOf s f w)) refl
-    where
-      go : (n : ℕ) → firstBroken rules f (viewOf s f w) ≡ n → Ok (judge s f w .next)
-      go zero e = rw (e, judge) (accepted-ok e d)
-      go (suc n) e = rw (e, judge) (refused-ok (suc n) (refusedWork (suc n) s f w) (dead-fits n e) (refused-wide (suc n)))
-
-  judge-bound : length (f .payload) ≤ maxPayload → length (judge s f w .adds) ≤ longestRecord
-  unfolding judge refused accepted
-  judge-bound l = go (firstBroken rules f (viewOf s f w)) refl
-    where
-      go : (n : ℕ) → firstBroken rules f (viewOf s f w) ≡ n → length (judge s f w .adds) ≤ longestRecord
-      go zero e = rw (e, judge) (record-bound e l)
-      go (suc n) e = rw (e, judge) (omega arith)
-
 -- ---- one byte
+
+-- a live receiver counts the byte
+pub take-live : (r : Receiver) (b : ℕ) → r .state .dead ≡ 0 → takeByte r b ≡ counted (put r b)
+unfolding takeByte
+take-live r b d = go (r .state .dead) d
+  where
+    go : (n : ℕ) → n ≡ 0 → elim n as (λ _. Step Receiver) [ zero ↦ counted (put r b) | suc n ↦ record { next = r; adds = [] } ] ≡ counted (put r b)
+    go zero e = refl
+    go (suc n) e = absurd (not-zero n e)
+
+-- what holds of a live receiver's byte: of one that 11 refuses, of one that leaves its frame open, and of a frame's last byte where the frame
+-- is accepted and where it is refused
+module _ (r : Receiver) (b : ℕ) (P : Step Receiver → Type 0) where
+  abbrev p : Receiver
+  p = put r b
+
+  abbrev f : Frame
+  f = frameOf (p .work)
+
+  abbrev broken : ℕ
+  broken = firstBroken rules f (viewOf (p .state) f (p .work))
+
+  pub live-case : r .state .dead ≡ 0 → P (refused 11 (p .state) (p .work)) → (tooLong p ≡ false → isWhole p ≡ false → P (record { next = p; adds = [] }))
+      → (tooLong p ≡ false → isWhole p ≡ true → broken ≡ 0 → P (accepted (p .state) f (p .work)))
+      → ((n : ℕ) → tooLong p ≡ false → isWhole p ≡ true → broken ≡ suc n → P (refused (suc n) (p .state) (refusedWork (suc n) (p .state) f (p .work))))
+      → P (takeByte r b)
+  unfolding counted judge
+  live-case d long rest takes fails = rw (take-live r b d) (by-long (tooLong p) refl)
+    where
+      by-rule : (n : ℕ) → tooLong p ≡ false → isWhole p ≡ true → broken ≡ n → P (judge (p .state) f (p .work))
+      by-rule zero a h e = rw (e, judge) (takes a h e)
+      by-rule (suc k) a h e = rw (e, judge) (fails k a h e)
+
+      by-whole : (t : Bool) → tooLong p ≡ false → isWhole p ≡ t → P (counted p)
+      by-whole true a h = rw (a, h, counted) (by-rule broken a h refl)
+      by-whole false a h = rw (a, h, counted) (rest a h)
+
+      by-long : (t : Bool) → tooLong p ≡ t → P (counted p)
+      by-long true a = rw (a, counted) long
+      by-long false a = by-whole (isWhole p) a refl
 
 eleven : deadFits 11 ≡ true
 unfolding deadFits
@@ -348,51 +372,34 @@ module _ (r : Receiver) (b : ℕ) (k : Ok r) where
   unfolding frameOf
   payload-length l = omega (arith, length-take (lengthOf w) (drop 8 w))
 
-  pub counted-ok : r .state .dead ≡ 0 → (Ok (counted (put r b) .next)) × (length (counted (put r b) .adds) ≤ longestRecord)
-  unfolding counted w put refused
-  counted-ok d = long (tooLong (put r b)) refl
-    where
-      p : Receiver
-      p = put r b
+  -- the shape is kept, and the record is no longer than the longest
+  abbrev Fine : Step Receiver → Type 0
+  Fine t = (Ok (t .next)) × (length (t .adds) ≤ longestRecord)
 
-      Fine : Type 0
-      Fine = (Ok (counted p .next)) × (length (counted p .adds) ≤ longestRecord)
-
-      done : (t : Bool) → tooLong p ≡ false → isWhole p ≡ t → Fine
-      done true a h = rw (a, h, counted)
-          (judge-ok (p .state) (frameOf w) w wide (k .count) (k .slots) d, judge-bound (p .state) (frameOf w) w wide (k .count) (k .slots) (payload-length (whole-length a h)))
-      done false a h = rw (a, h, counted) (still-open r b k a h, omega arith)
-
-      long : (t : Bool) → tooLong p ≡ t → Fine
-      long true a = rw (a, counted) (refused-ok (p .state) (frameOf w) w wide (k .count) (k .slots) 11 w eleven wide, omega arith)
-      long false a = done (isWhole p) a refl
-
-  pub take-ok : (Ok (takeByte r b .next)) × (length (takeByte r b .adds) ≤ longestRecord)
-  unfolding takeByte
+  pub take-ok : Fine (takeByte r b)
+  unfolding takeByte w put refused accepted
   take-ok = go (r .state .dead) refl
     where
-      go : (n : ℕ) → r .state .dead ≡ n → (Ok (takeByte r b .next)) × (length (takeByte r b .adds) ≤ longestRecord)
-      go zero e = rw (e, takeByte) (counted-ok e)
-      go (suc n) e = rw (e, takeByte) (k, omega arith)
+      s : Channel
+      s = put r b .state
 
--- a live receiver counts the byte
-pub take-live : (r : Receiver) (b : ℕ) → r .state .dead ≡ 0 → takeByte r b ≡ counted (put r b)
-unfolding takeByte
-take-live r b d = go (r .state .dead) d
-  where
-    go : (n : ℕ) → n ≡ 0 → elim n as (λ _. Step Receiver) [ zero ↦ counted (put r b) | suc n ↦ record { next = r; adds = [] } ] ≡ counted (put r b)
-    go zero e = refl
-    go (suc n) e = absurd (not-zero n e)
+      go : (n : ℕ) → r .state .dead ≡ n → Fine (takeByte r b)
+      go zero d =
+          live-case r b Fine d
+          (refused-ok s (frameOf w) w wide (k .count) (k .slots) 11 w eleven wide, omega arith)
+          (λ a h. (still-open r b k a h, omega arith))
+          (λ a h e. (accepted-ok s (frameOf w) w wide (k .count) (k .slots) e d, record-bound s (frameOf w) w wide (k .count) (k .slots) e (payload-length (whole-length a h))))
+          (λ n a h e. (refused-ok s (frameOf w) w wide (k .count) (k .slots) (suc n) _ (dead-fits s (frameOf w) w wide (k .count) (k .slots) n e) (refused-wide s (frameOf w) w wide (k .count) (k .slots) (suc n)), omega arith))
+      go (suc n) d = rw (d, takeByte) (k, omega arith)
 
 -- a byte that does not close its frame adds no record
 pub quiet : (r : Receiver) (b : ℕ) → isWhole (put r b) ≡ false → takeByte r b .adds ≡ []
-unfolding takeByte counted refused
-quiet r b e = go (r .state .dead) (tooLong (put r b)) refl refl
+unfolding takeByte refused
+quiet r b o = go (r .state .dead) refl
   where
-    go : (n : ℕ) (t : Bool) → r .state .dead ≡ n → tooLong (put r b) ≡ t → takeByte r b .adds ≡ []
-    go zero true d l = rw (d, l, takeByte, counted)
-    go zero false d l = rw (d, l, e, takeByte, counted)
-    go (suc n) t d l = rw (d, takeByte)
+    go : (n : ℕ) → r .state .dead ≡ n → takeByte r b .adds ≡ []
+    go zero d = live-case r b (λ t. t .adds ≡ []) d refl (λ a h. refl) (λ a h e. clash h o) (λ n a h e. refl)
+    go (suc n) d = rw (d, takeByte)
 
 -- ---- finish
 

@@ -1,21 +1,20 @@
 -- What a refusal leaves: a byte that refuses its frame leaves the slots and the streams, and adds no record; the work area has the byte,
 -- and with 24, 25 or 26 the payload too, put behind what its slot's part holds. Assumes nothing.
-use Prim.Native.Nat.{ℕ, zero, suc, _+_}
+use Prim.Native.Nat.{ℕ, suc, _+_}
 use native.Mathlib.Nat.{add-zero}
 use mathlib.Core.Path.{_≡_, refl, sym, _∙_}
-use mathlib.Core.Bool.{Bool, true, false}
+use mathlib.Core.Bool.{true, false}
 use mathlib.Core.List.{List, []}
 use Rattle.buffer.specs.Bytes.{write}
 use Rattle.frame.specs.Limits.{partStart}
 use Rattle.frame.specs.Frame.{Frame, frameOf, isNew}
 use Rattle.session.specs.Session.{Step}
 use Rattle.requests.specs.Slots.{slotsFit}
-use Rattle.rules.specs.Rules.{rules, firstBroken}
 use Rattle.channel.specs.declared.Channel.{Channel}
-use Rattle.channel.specs.Receiver.{Receiver, slotAt, placeOf, slotOf, lowestFree, target, placed, viewOf, refused, refusedWork, accepted, judge, put, isWhole, tooLong, counted, takeByte}
+use Rattle.channel.specs.Receiver.{Receiver, slotAt, placeOf, slotOf, lowestFree, target, placed, refused, refusedWork, accepted, put, takeByte}
 use Rattle.demands.specs.Demands.{Refused, AfterRefusal}
 use Rattle.channel.proofs.SlotLaws.{each-fits}
-use Rattle.channel.proofs.ReceiverLaws.{take-live}
+use Rattle.channel.proofs.ReceiverLaws.{live-case}
 use Rattle.channel.proofs.JudgeLaws.{is-left, is-placed}
 use Rattle.demands.proofs.Demand3.{ok}
 use Rattle.demands.proofs.SeenLaws.{free-empty, lowest-is-free}
@@ -62,25 +61,13 @@ module _ (r : Receiver) (b n : ℕ) (fit : slotsFit (r .state .slots) ≡ true) 
   unfolding refused
   refuses m e = rw e (refusal, refl)
 
-  judged : Left (judge s f w)
-  unfolding judge accepted put
-  judged = go (firstBroken rules f (viewOf s f w)) refl
-    where
-      go : (m : ℕ) → firstBroken rules f (viewOf s f w) ≡ m → Left (judge s f w)
-      go zero e = rw (e, judge) (λ q. absurd (o (sym q ∙ d)))
-      go (suc m) e = rw (e, judge) (refuses (suc m))
-
   taken : Left (takeByte r b)
-  unfolding counted put refusedWork
-  taken = rw (take-live r b d) (long (tooLong p) refl)
-    where
-      done : (t : Bool) → tooLong p ≡ false → isWhole p ≡ t → Left (counted p)
-      done true a h = rw (a, h, counted) judged
-      done false a h = rw (a, h, counted) (λ q. absurd (o (sym q ∙ d)))
-
-      long : (t : Bool) → tooLong p ≡ t → Left (counted p)
-      long true a = rw (a, counted) (refuses 11)
-      long false a = done (isWhole p) a refl
+  unfolding accepted put refusedWork
+  taken =
+      live-case r b Left d (refuses 11)
+      (λ a h q. absurd (o (sym q ∙ d)))
+      (λ a h e q. absurd (o (sym q ∙ d)))
+      (λ n a h e. refuses (suc n))
 
 pub after-refusal : AfterRefusal
 after-refusal r k d b n e o = taken r b n (ok r k .slots) d o e

@@ -19,9 +19,9 @@ use Rattle.rules.proofs.RuleLaws.{passed}
 use Rattle.rules.proofs.StageLaws.{head-none, of-command}
 use Rattle.buffer.proofs.WriteLaws.{length-write, set-write, getD-apart, drop-past}
 use Rattle.channel.specs.declared.Channel.{Channel}
-use Rattle.channel.specs.Receiver.{Receiver, slotAt, placeOf, lowestFree, target, commandLength, placed, viewOf, refused, refusedWork, accepted, judge, put, isWhole, tooLong, counted, takeByte, finish}
+use Rattle.channel.specs.Receiver.{Receiver, slotAt, placeOf, lowestFree, target, commandLength, placed, viewOf, refused, refusedWork, accepted, put, isWhole, takeByte, finish}
 use Rattle.channel.specs.Channel.{channel}
-use Rattle.channel.proofs.ReceiverLaws.{Ok, take-live, room-of, keeps}
+use Rattle.channel.proofs.ReceiverLaws.{Ok, live-case, room-of, keeps}
 use Rattle.demands.proofs.Demand3.{ok}
 use Rattle.demands.specs.Demands.{frameWith, fills, ByteWrites, PastKept}
 
@@ -91,25 +91,14 @@ module _ (r : Receiver) (b : ℕ) (k : Ok r) (live : r .state .dead ≡ 0) where
           record { work = rw (h, c, t, some); inside = λ _. has-room (suc n) c e (λ _. a) }
       go false t = stays (refused (suc n) s (refusedWork (suc n) s f w) .next) (rw (h, t, some) (and-false (isCommand f))) (rw t)
 
-  judged : isWhole p ≡ true → Left (judge s f w .next)
-  unfolding judge
-  judged h = go (firstBroken rules f v) refl
-    where
-      go : (n : ℕ) → firstBroken rules f v ≡ n → Left (judge s f w .next)
-      go zero e = rw (e, judge) (accepts h e)
-      go (suc n) e = rw (e, judge) (refuses n h e)
-
   taken : Left (takeByte r b .next)
-  unfolding refused counted
-  taken = rw (take-live r b live) (long (tooLong p) refl)
-    where
-      done : (t : Bool) → tooLong p ≡ false → isWhole p ≡ t → Left (counted p .next)
-      done true a h = rw (a, h, counted) (judged h)
-      done false a h = rw (a, h, counted) (stays p (rw h) refl)
-
-      long : (t : Bool) → tooLong p ≡ t → Left (counted p .next)
-      long true a = rw (a, counted) (stays (refused 11 s w .next) (and-false (isWhole p && isCommand f)) refl)
-      long false a = done (isWhole p) a refl
+  unfolding refused
+  taken =
+      live-case r b (λ t. Left (t .next)) live
+      (stays (refused 11 s w .next) (and-false (isWhole p && isCommand f)) refl)
+      (λ a h. stays p (rw h) refl)
+      (λ a. accepts)
+      (λ n a. refuses n)
 
   -- ---- the places that are as they were
 
