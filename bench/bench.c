@@ -102,7 +102,16 @@ static void strings(struct row *row, const char *what, unsigned arguments, size_
     }
 }
 
-#define ROWS 7
+static void without_args(struct row *row)
+{
+    row->what = "name alone";
+    row->arguments = 0;
+    row->answer = 0;
+    row->length = 0;
+    put(row, "\xa1\x44name\x43set", 10);
+}
+
+#define ROWS 8
 static struct row rows[ROWS];
 
 static void make_rows(void)
@@ -118,6 +127,7 @@ static void make_rows(void)
     integers(&rows[6], "last key as the first", 283);
     memcpy(rows[6].bytes + rows[6].length - 6, "k000", 4);
     rows[6].answer = 26;
+    without_args(&rows[7]);
 }
 
 /* ---- the sides ---- */

@@ -168,7 +168,7 @@ impl<'a> Reader<'a> {
                 }
             }
         }
-        if !fits || names == 0 || args == 0 {
+        if !fits || names == 0 {
             return Some(25);
         }
         let twice = names > 1 || args > 1 || redirects > 1;

@@ -15,6 +15,13 @@ pub unsafe extern "C" fn second_check(command: *const u8, length: usize) -> u32 
 /// # Safety
 /// As above.
 #[no_mangle]
+pub unsafe extern "C" fn second_lacks_args(command: *const u8, length: usize) -> u32 {
+    command::lacks_args(from_raw_parts(command, length)).into()
+}
+
+/// # Safety
+/// As above.
+#[no_mangle]
 pub unsafe extern "C" fn second_argument_number(
     command: *const u8,
     length: usize,

@@ -153,8 +153,9 @@ static void fail_if_rare(const struct count *count, uint64_t commands)
     }
 }
 
+/* Adds to `lacking` if the command is accepted without `args`. */
 static struct answers compare(struct fenced for_command, struct fenced for_key, uint64_t seed,
-                              uint64_t index)
+                              uint64_t index, uint64_t *lacking)
 {
     struct generated *generated = generated_new(seed, index);
     struct slice command, key;
@@ -173,6 +174,7 @@ static struct answers compare(struct fenced for_command, struct fenced for_key, 
     }
     if (!same_bytes(lent, command) || !same_bytes(lent_key, key))
         fail(command, key, seed, index, "the lent bytes were changed");
+    *lacking += second_lacks_args(command.bytes, command.length);
     generated_free(generated);
     return archive;
 }
@@ -188,18 +190,24 @@ int main(int argc, char **argv)
     };
     struct fenced for_command = make_fenced(1 << 18);
     struct fenced for_key = make_fenced(1 << 14);
+    uint64_t lacking = 0;
 
     printf("compare (C): seed %" PRIu64 "\n", seed);
     for (uint64_t index = 0; index < commands; index++) {
-        struct answers answers = compare(for_command, for_key, seed, index);
+        struct answers answers = compare(for_command, for_key, seed, index, &lacking);
         add(&counts[0], answers.check);
         add(&counts[1], answers.argument_number);
         add(&counts[2], answers.integer_number);
     }
     for (int i = 0; i < 3; i++)
         print_count(&counts[i]);
+    printf("accepted without args    %" PRIu64 "\n", lacking);
     for (int i = 0; i < 3; i++)
         fail_if_rare(&counts[i], commands);
+    if (lacking * 50 < commands) {
+        printf("compare (C): accepted without args in less than 2%%\n");
+        return 1;
+    }
     printf("compare (C): %" PRIu64 " commands, no difference\n", commands);
     return 0;
 }

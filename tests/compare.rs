@@ -117,6 +117,32 @@ fn traces() {
     }
 }
 
+/// E1's commands: `args` missing, alone and beside `redirect`; no `name`;
+/// and an `args` of another type.
+fn without_args() {
+    let name = b"\x44name\x43off";
+    let table = [
+        ([b"\xa1", &name[..], b""].concat(), 0, 6),
+        ([b"\xa2", &name[..], b"\x48redirect\xa0"].concat(), 0, 6),
+        (b"\xa1\x44args\xa0".to_vec(), 25, 25),
+        ([b"\xa2", &name[..], b"\x44args\x80"].concat(), 25, 25),
+    ];
+    for (command, check, number) in table {
+        let key = b"k".to_vec();
+        let case = Case { command, key };
+        let answers = compare(&case, "E1");
+        let expected = Answers {
+            check,
+            argument_number: number,
+            integer_number: number,
+            integer: 0,
+        };
+        if answers != expected {
+            fail(&case, &format!("E1 is {answers:?}, not {expected:?}"));
+        }
+    }
+}
+
 const NUMBERS: [u32; 7] = [0, 24, 25, 26, 6, 7, 8];
 
 /// How often a call gave each of the numbers.
@@ -169,6 +195,7 @@ fn main() {
     let seed = argument(2, 1);
     println!("compare (Rust): seed {seed}");
     traces();
+    without_args();
     for case in fixed::published() {
         compare(&case, "an example of RFC 7049");
     }
@@ -177,6 +204,7 @@ fn main() {
         Count::new("command_argument_number", 5),
         Count::new("command_integer_number", 7),
     ];
+    let mut lacking = 0;
     for index in 0..commands {
         let case = generate::case(seed, index);
         let answers = compare(&case, &format!("seed {seed}, index {index}"));
@@ -188,10 +216,12 @@ fn main() {
         for (count, number) in counts.iter_mut().zip(numbers) {
             count.add(number);
         }
+        lacking += u64::from(command::lacks_args(&case.command));
     }
     for count in &counts {
         count.print();
     }
+    println!("accepted without args    {lacking}");
     for count in &counts {
         if let Some(number) = count.rare(commands) {
             println!(
@@ -200,6 +230,10 @@ fn main() {
             );
             exit(1);
         }
+    }
+    if lacking * 50 < commands {
+        println!("compare (Rust): accepted without args in less than 2%");
+        exit(1);
     }
     println!("compare (Rust): {commands} commands, no difference");
 }

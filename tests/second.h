@@ -8,6 +8,8 @@
 #include <stdint.h>
 
 uint32_t second_check(const uint8_t *command, size_t length);
+/* 1 if the command passes the check and has no `args`, else 0. */
+uint32_t second_lacks_args(const uint8_t *command, size_t length);
 uint32_t second_argument_number(const uint8_t *command, size_t length,
                                 const uint8_t *key, size_t key_length);
 uint32_t second_integer_number(const uint8_t *command, size_t length,

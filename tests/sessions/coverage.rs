@@ -1,6 +1,7 @@
 //! How often the sessions meet each thing that is to be met.
 
 use crate::counts::Memory;
+use second::command::lacks_args;
 use second::frame::{
     Frame, BEGINS, COMMAND, CONTINUATION, DATA, ENDS, LAST_DATA, MORE, NEW, WITH_DATA,
 };
@@ -9,7 +10,7 @@ use second::state::Way;
 use std::collections::BTreeMap;
 
 /// All but the refusal numbers and the ways to be out of shape.
-const MET: [&str; 63] = [
+const MET: [&str; 64] = [
     "2 though 3 applies too",
     "3 though dead",
     "dead answered to a feed",
@@ -56,6 +57,7 @@ const MET: [&str; 63] = [
     "command frame without payload",
     "command of 2,047 bytes",
     "command of 2,048 bytes",
+    "command without args",
     "request over several streams",
     "id used again",
     "eighth request",
@@ -157,9 +159,10 @@ impl Coverage {
             let data = frame.is_command(WITH_DATA);
             self.add_if(data, "whole, to waiting");
             self.add_if(!data, "whole, to running");
-            let length = command_length(frame, past);
-            self.add_if(length == 2047, "command of 2,047 bytes");
-            self.add_if(length == 2048, "command of 2,048 bytes");
+            let command = whole_command(frame, past);
+            self.add_if(command.len() == 2047, "command of 2,047 bytes");
+            self.add_if(command.len() == 2048, "command of 2,048 bytes");
+            self.add_if(lacks_args(&command), "command without args");
         }
         let before = command_frames(frame, past).next();
         if frame.is_command(CONTINUATION) {
@@ -197,18 +200,19 @@ fn command_frames<'p>(frame: &Frame, past: &'p [Event]) -> impl Iterator<Item = 
     })
 }
 
-/// The length of the command that this frame makes whole.
-fn command_length(frame: &Frame, past: &[Event]) -> usize {
-    let mut length = frame.payload().len();
+/// The command that this frame makes whole.
+fn whole_command(frame: &Frame, past: &[Event]) -> Vec<u8> {
+    let mut payloads = vec![frame.payload()];
     if frame.is_command(CONTINUATION) {
         for before in command_frames(frame, past) {
-            length += before.payload().len();
+            payloads.push(before.payload());
             if before.is_command(NEW) {
                 break;
             }
         }
     }
-    length
+    payloads.reverse();
+    payloads.concat()
 }
 
 fn number_name(number: u8) -> String {

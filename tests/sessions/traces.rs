@@ -41,7 +41,8 @@ pub fn run() {
     longest_command();
     finish_of_collecting();
     command_bytes();
-    println!("sessions: T1 to T12 as in the papers");
+    without_args();
+    println!("sessions: T1 to T12 and E1 as in the papers");
 }
 
 /// T1, T2, T3, T5 and T10.
@@ -154,4 +155,22 @@ fn command_bytes() {
         trace.ask(&line, &format!("integer {answer}"));
     }
     Trace::new("T10").ask("check -", "checked 24");
+}
+
+/// E1: a command of the name `off` alone, and with `redirect`; then no name,
+/// and an `args` that is an array.
+fn without_args() {
+    let name = "446e616d65436f6666";
+    let alone = format!("a1{name}");
+    let mut e1 = Trace::new("E1");
+    let record = format!("0d000100010000{alone}");
+    e1.feed(&format!("0a00000100010111{alone}"), 0, &record);
+    for command in [alone, format!("a2{name}487265646972656374a0")] {
+        e1.ask(&format!("check {command}"), "checked 0");
+        e1.ask(&format!("name {command}"), "named 0 6f6666");
+        e1.ask(&format!("arg {command} 6b"), "argument 6 -");
+        e1.ask(&format!("int {command} 6b"), "integer 6 0");
+    }
+    e1.ask("check a14461726773a0", "checked 25");
+    e1.ask(&format!("check a2{name}446172677380"), "checked 25");
 }

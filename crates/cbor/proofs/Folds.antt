@@ -63,14 +63,3 @@ module _ {A : Type 0} where
   after-bytes h (Map n at) f d g c e k = k
   after-bytes h (Set n at) f d g c e k = k
   after-bytes h Refused f d g c e k = k
-
-  -- a function of a fold is a fold
-  pub after-map : {B : Type 0} (h : A → B) (x : Item) (f : ℕ → ℕ → A) (d : A) (g : ℕ → ℕ → B) (c : B) → ((n at : ℕ) → g n at ≡ h (f n at)) → c ≡ h d → ifMap x g c ≡ h (ifMap x f d)
-  after-map h (Unsigned n next) f d g c e k = k
-  after-map h (Negative n next) f d g c e k = k
-  after-map h (Bytes start next) f d g c e k = k
-  after-map h (Simple next) f d g c e k = k
-  after-map h (Array n at) f d g c e k = k
-  after-map h (Map n at) f d g c e k = e n at
-  after-map h (Set n at) f d g c e k = k
-  after-map h Refused f d g c e k = k

@@ -13,9 +13,9 @@ use Rattle.cbor.specs.declared.Item.{Item}
 use Rattle.cbor.specs.declared.Item.the-variants.{Unsigned, Negative, Bytes, Simple, Array, Map, Set, Refused}
 use Rattle.cbor.specs.declared.Next.{Next}
 use Rattle.cbor.specs.declared.Next.the-variants.{At, Bad}
-use Rattle.cbor.specs.Cbor.{Reader, itemAt, value, isItem}
+use Rattle.cbor.specs.Cbor.{Reader, itemAt, value}
 use Rattle.cbor.proofs.Ahead.{by-test, Ahead, Moves, Item-ahead, item-ahead, value-moves}
-use Rattle.cbor.proofs.Folds.{by-bytes, by-map}
+use Rattle.cbor.proofs.Folds.{by-map}
 use Rattle.keys.specs.Keys.{part}
 use Rattle.entries.specs.declared.Entry.{Entry}
 use Rattle.entries.specs.declared.Entry.the-variants.{Keyed, Other, Broken}
@@ -24,11 +24,12 @@ use Rattle.command_map.specs.declared.Checked.{Checked}
 use Rattle.command_map.specs.declared.Checked.the-variants.{Command, NotItem, NotCommand, DoubleKey}
 use Rattle.command.specs.declared.Place.{Place}
 use Rattle.command.specs.declared.Place.the-variants.{Found, NotFound}
-use Rattle.command_map.specs.CommandMap.{name-key, args-key, isName, valueItem, allowed, valueUnder, double, mapOf}
+use Rattle.command_map.specs.CommandMap.{name-key, args-key, isName, valueItem, allowed, valueUnder}
 use Rattle.command.specs.Command.{checked, ifCommand, numberOf}
 use Rattle.command.specs.Lookup.{placeNumber, placeOf, nameOf, argumentAt, partAt}
 use Rattle.command.specs.Laws.{EmptyExactly, NameEmpty, ValueEmpty}
 use Rattle.entries.proofs.Bools.{and-left, and-right}
+use Rattle.command.proofs.Cases.{refusal, by-checked}
 
 module _ (s : List ℕ) where
   -- what runs from start up to stop is not empty and lies within the command
@@ -117,19 +118,11 @@ module _ (s : List ℕ) where
   Named NotCommand = Unit {0}
   Named DoubleKey = Unit {0}
 
-  map-named : (es : List Entry) → Named (mapOf s es)
-  unfolding mapOf valueUnder
-  map-named es = by-test Named (all (allowed s) es) (λ ok.
-      by-bytes Named (valueItem s (find s name-key es)) _ NotCommand (λ start stop x.
-      by-map Named (valueItem s (find s args-key es)) _ NotCommand (λ count first y.
-      by-test Named (double s es) (λ d. tt) (λ d. name-lies (find s name-key es) (found-fits name-key es ok) start stop x)) tt) tt) (λ ok. tt)
-
   checked-named : Named (checked s)
-  unfolding checked
-  checked-named = by-test Named (isItem s) (λ h. by-map Named (itemAt s 0) _ NotCommand (λ n at e. map-named (entries s 7 n at)) tt) (λ h. tt)
-
-  refusal : (n : ℕ) → suc n ≡ 0 → ⊥
-  refusal n e = omega arith
+  unfolding valueUnder
+  checked-named = by-checked s Named tt tt tt (λ n at e ok start stop x.
+      let lies : Lies start stop = name-lies (find s name-key (entries s 7 n at)) (found-fits name-key (entries s 7 n at) ok) start stop x in
+      by-map Named (valueUnder s args-key (entries s 7 n at)) _ _ (λ count first y. lies) lies)
 
   empty-name : (c : Checked) → Named c → EmptyExactly (numberOf c) (ifCommand c (λ start stop count first. part s start stop) (λ n. []))
   empty-name (Command start stop count first) l = record { there = λ e. not-empty start stop l; refused = λ h. absurd (h refl) }

@@ -1,5 +1,7 @@
 -- What the proofs of several functions use.
 mod Answers
+mod Cases
 mod Signed
 pub mod Empty
+pub mod Missing
 pub mod Traces

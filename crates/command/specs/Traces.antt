@@ -18,9 +18,17 @@ pub record Trace : Type 0 where
   pub key : List ℕ
   pub answer : Answer
 
+-- the name `set`, and these bytes behind it
+abbrev withName : List ℕ → List ℕ
+withName l = 0x44 ∷ 0x6e ∷ 0x61 ∷ 0x6d ∷ 0x65 ∷ 0x43 ∷ 0x73 ∷ 0x65 ∷ 0x74 ∷ l
+
+-- `args`, and these bytes for its value and what follows
+abbrev thenArgs : List ℕ → List ℕ
+thenArgs l = 0x44 ∷ 0x61 ∷ 0x72 ∷ 0x67 ∷ 0x73 ∷ l
+
 -- a command with the name `set` and these bytes for the value of `args`
 abbrev withArgs : List ℕ → List ℕ
-withArgs l = 0xa2 ∷ 0x44 ∷ 0x6e ∷ 0x61 ∷ 0x6d ∷ 0x65 ∷ 0x43 ∷ 0x73 ∷ 0x65 ∷ 0x74 ∷ 0x44 ∷ 0x61 ∷ 0x72 ∷ 0x67 ∷ 0x73 ∷ l
+withArgs l = 0xa2 ∷ withName (thenArgs l)
 
 -- one argument, `x`, with these bytes for its value
 abbrev withX : List ℕ → List ℕ
@@ -36,12 +44,20 @@ unfoldable pub traces : List Trace
 traces =
     -- T1's command: no argument
     row (withArgs (0xa0 ∷ [])) 0 6 (pos 0) ∷
+    -- E1, `args` missing: the name alone, and the name with `redirect`; the name twice
+    row (0xa1 ∷ withName []) 0 6 (pos 0) ∷
+    row (0xa2 ∷ withName (0x48 ∷ 0x72 ∷ 0x65 ∷ 0x64 ∷ 0x69 ∷ 0x72 ∷ 0x65 ∷ 0x63 ∷ 0x74 ∷ 0xa0 ∷ [])) 0 6 (pos 0) ∷
+    row (0xa2 ∷ withName (withName [])) 26 26 (pos 0) ∷
+    -- E1, `name` is still needed: `args` alone, and neither; `args` twice
+    row (0xa1 ∷ thenArgs (0xa0 ∷ [])) 25 25 (pos 0) ∷
+    row (0xa0 ∷ []) 25 25 (pos 0) ∷
+    row (0xa3 ∷ withName (thenArgs (0xa0 ∷ thenArgs (0xa0 ∷ [])))) 26 26 (pos 0) ∷
     -- 2^63-1 and 2^63
     row (withX (0x1b ∷ 0x7f ∷ 0xff ∷ 0xff ∷ 0xff ∷ 0xff ∷ 0xff ∷ 0xff ∷ 0xff ∷ [])) 0 0 (pos (2 ^ 63 - 1)) ∷
     row (withX (0x1b ∷ 0x80 ∷ 0 ∷ 0 ∷ 0 ∷ 0 ∷ 0 ∷ 0 ∷ 0 ∷ [])) 0 8 (pos 0) ∷
     -- a key twice, the second with a wider head
     row (withArgs (0xa2 ∷ 0x41 ∷ 0x78 ∷ 0 ∷ 0x58 ∷ 1 ∷ 0x78 ∷ 0 ∷ [])) 26 26 (pos 0) ∷
-    -- a key of `args` that is no byte string; `args` that is no map; an item that is no map
+    -- a key of `args` that is no byte string; an `args` that is an array; an item that is no map
     row (withArgs (0xa1 ∷ 0 ∷ 0 ∷ [])) 25 25 (pos 0) ∷
     row (withArgs (0x80 ∷ [])) 25 25 (pos 0) ∷
     row (0 ∷ []) 25 25 (pos 0) ∷

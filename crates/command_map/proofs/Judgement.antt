@@ -9,7 +9,7 @@ use borrow.Author.Tests.{eq-eqb}
 use Rattle.cbor.specs.declared.Item.{Item}
 use Rattle.cbor.specs.declared.Item.the-variants.{Unsigned, Negative, Bytes, Simple, Array, Map, Set, Refused}
 use Rattle.cbor.specs.declared.Next.the-variants.{At}
-use Rattle.cbor.proofs.Folds.{by-bytes, by-map, after-bytes, after-map}
+use Rattle.cbor.proofs.Folds.{by-bytes, by-map, after-bytes}
 use Rattle.keys.specs.Keys.{part, equal, twice}
 use Rattle.keys.proofs.Equal.{equal-true}
 use Rattle.entries.proofs.Bools.{and-left, and-right}
@@ -17,11 +17,13 @@ use Rattle.entries.specs.declared.Entry.{Entry}
 use Rattle.entries.specs.declared.Entry.the-variants.{Keyed, Other, Broken}
 use Rattle.entries.specs.declared.Keys.the-variants.{Single, Double, Others}
 use Rattle.entries.specs.Entries.{all, any, isKeyed, entries, contents, hasKey, find, keysOf}
-use Rattle.command_map.specs.declared.Checked.the-variants.{Command, NotCommand, DoubleKey}
+use Rattle.command_map.specs.declared.Checked.{Checked}
+use Rattle.command_map.specs.declared.Checked.the-variants.{NotCommand, DoubleKey}
 use Rattle.command_map.specs.declared.Judged.{Judged}
 use Rattle.command_map.specs.declared.Fields.{Fields}
-use Rattle.command_map.specs.CommandMap.{name-key, args-key, redirect-key, isName, isMap, isArgs, hasDouble, valueItem, allowed, valueUnder, argsDouble, double, mapOf, mapChecked}
+use Rattle.command_map.specs.CommandMap.{name-key, args-key, redirect-key, isName, isMap, commandWith, isArgs, hasDouble, valueItem, allowed, valueUnder, argsDouble, double, mapOf, mapChecked}
 use Rattle.command_map.specs.Walk.{firstBytes, firstMap, noneJudged, unallowed, withName, withKeys, withRedirect, withArgs, judge, Walked, commandOf, alsoDouble, JudgementHolds}
+use Rattle.command_map.proofs.Answers.{still-single}
 
 -- a value of each kind
 name-bytes : (x : Item) → isName x ≡ true → (start : ℕ) × (stop : ℕ) × (x ≡ Bytes start stop)
@@ -196,11 +198,11 @@ module _ (s : List ℕ) where
   args-passes j e ok h = by-key (λ (k : Judged). k .args ≡ j .args) j e ok (λ a start stop x. refl) (λ a b n at x. clash b h) (λ a b. refl)
 
   -- the command map, by the judgement and by whether a key stands twice in it
-  double-too : (t d : Bool) (start stop count first : ℕ) → cond (t || d) DoubleKey (Command start stop count first) ≡ alsoDouble t (cond d DoubleKey (Command start stop count first))
-  double-too true true start stop count first = refl
-  double-too true false start stop count first = refl
-  double-too false true start stop count first = refl
-  double-too false false start stop count first = refl
+  double-too : (t d : Bool) (start stop : ℕ) (args : Item) → cond (t || d) DoubleKey (commandWith start stop args) ≡ alsoDouble t (cond d DoubleKey (commandWith start stop args))
+  double-too true true start stop args = refl
+  double-too true false start stop args = by-map (λ (c : Checked). DoubleKey ≡ alsoDouble true c) args _ _ (λ n at e. refl) refl
+  double-too false true start stop args = refl
+  double-too false false start stop args = sym (still-single (commandWith start stop args))
 
   pub judgement-holds : JudgementHolds s
   unfolding mapOf double
@@ -216,8 +218,7 @@ module _ (s : List ℕ) where
         any-double noneJudged es h,
       )
           (after-bytes (alsoDouble (twice (contents s es))) (valueUnder s name-key es) _ NotCommand _ NotCommand
-          (λ start stop. after-map (alsoDouble (twice (contents s es))) (valueUnder s args-key es) _ NotCommand _ NotCommand
-          (λ count first. double-too (twice (contents s es)) (any (argsDouble s) es) start stop count first) refl) refl)
+          (λ start stop. double-too (twice (contents s es)) (any (argsDouble s) es) start stop (valueUnder s args-key es)) refl)
 
   -- the check of a map that ends where the bytes do, by what the walk over it left
   pub map-whole : (n at p : ℕ) (starts stops : List ℕ) (f : Fields) → Walked s n at starts stops f → f .end ≡ At p → p ≡ length s → mapChecked s n at ≡ alsoDouble (twice (contents s (entries s 7 n at))) (commandOf (f .judged))

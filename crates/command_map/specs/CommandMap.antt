@@ -51,7 +51,7 @@ module _ (s : List ℕ) where
       (cond (hasKey s args-key e) (isArgs (valueItem e))
       (cond (hasKey s redirect-key e) (isMap (valueItem e)) false))
 
-  -- 25 too: `name` and `args` occur; these are their first values
+  -- the first value under a key, refused if the key does not occur
   unfoldable pub valueUnder : List ℕ → List Entry → Item
   valueUnder key es = valueItem (find s key es)
 
@@ -62,13 +62,20 @@ module _ (s : List ℕ) where
   unfoldable pub double : List Entry → Bool
   double es = twice (contents s es) || any argsDouble es
 
-  -- the outer map, by its entries
-  unfoldable pub mapOf : List Entry → Checked
-  mapOf es =
-      cond (all allowed es)
-      (ifBytes (valueUnder name-key es) (λ start stop.
-      ifMap (valueUnder args-key es) (λ count first.
-      cond (double es) DoubleKey (Command start stop count first)) NotCommand) NotCommand) NotCommand
+-- the command with this name and these arguments; a missing `args` reads as an empty map (E1)
+abbrev pub commandWith : ℕ → ℕ → Item → Checked
+commandWith start stop args = ifMap args (Command start stop) (Command start stop 0 0)
+
+-- 25 unless every entry is allowed and `name` occurs (E1: `args` need not); then 26 if a key stands twice
+abbrev pub answer : Bool → Item → Item → Bool → Checked
+answer fits name args repeats =
+    cond fits
+    (ifBytes name (λ start stop.
+    cond repeats DoubleKey (commandWith start stop args)) NotCommand) NotCommand
+
+-- the outer map, by its entries
+unfoldable pub mapOf : List ℕ → List Entry → Checked
+mapOf s es = answer (all (allowed s) es) (valueUnder s name-key es) (valueUnder s args-key es) (double s es)
 
 -- the check of bytes that start with the head of a map of n entries, whose first stands at a position
 unfoldable pub mapChecked : List ℕ → ℕ → ℕ → Checked

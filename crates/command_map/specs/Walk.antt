@@ -18,7 +18,7 @@ use Rattle.command_map.specs.declared.Judged.{Judged}
 use Rattle.command_map.specs.declared.Fields.{Fields}
 use Rattle.command_map.specs.declared.Checked.{Checked}
 use Rattle.command_map.specs.declared.Checked.the-variants.{Command, NotItem, NotCommand, DoubleKey}
-use Rattle.command_map.specs.CommandMap.{name-key, args-key, redirect-key, isName, isMap, valueItem, mapOf}
+use Rattle.command_map.specs.CommandMap.{name-key, args-key, redirect-key, isName, isMap, answer, valueItem, mapOf}
 
 -- the first of two items that is a byte string, or a map
 abbrev pub firstBytes : Item → Item → Item
@@ -67,11 +67,7 @@ module _ (s : List ℕ) where
 
 -- the command that the judgement of all entries shows, but for keys that stand twice in the outer map
 abbrev pub commandOf : Judged → Checked
-commandOf j =
-    cond (j .allowed)
-    (ifBytes (j .name) (λ start stop.
-    ifMap (j .args) (λ count first.
-    cond (j .double) DoubleKey (Command start stop count first)) NotCommand) NotCommand) NotCommand
+commandOf j = answer (j .allowed) (j .name) (j .args) (j .double)
 
 -- a command in whose outer map a key stands twice
 abbrev pub alsoDouble : Bool → Checked → Checked

@@ -9,7 +9,7 @@ ghost use Rattle.command_map.specs.CommandMap.{isName, valueItem, mapChe
 ghost use Rattle.command_map.specs.Walk.{firstBytes, firstMap, unallowed, withName, withKeys, withArgs, withRedirect, judge, Walked, commandOf};
 
 // The answer of the check: where the content of the command's name starts and stops, how many arguments it has and where the first
-// stands. Or 24, no item of the subset; 25, no command map; 26, a key twice.
+// stands (0 and 0 if `args` is missing). Or 24, no item of the subset; 25, no command map; 26, a key twice.
 pub enum Checked {
     Command {
         start: usize,
@@ -225,12 +225,17 @@ fn command_of(j: Judged) -> Checked
     let Item::Bytes(start, stop) = name else {
         return Checked::NotCommand;
     };
-    let Item::Map(count, first) = args else {
-        return Checked::NotCommand;
-    };
     if j.double {
         return Checked::DoubleKey;
     }
+    let Item::Map(count, first) = args else {
+        return Checked::Command {
+            start,
+            stop,
+            count: 0,
+            first: 0,
+        };
+    };
     Checked::Command {
         start,
         stop,

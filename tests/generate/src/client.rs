@@ -95,7 +95,8 @@ pub fn command_of(length: usize, random: &mut Random) -> Vec<u8> {
 
 fn good_command(random: &mut Random) -> Vec<u8> {
     match random.below(10) {
-        0..=3 => b"\xa2\x44name\x43set\x44args\xa0".to_vec(),
+        0..=2 => b"\xa2\x44name\x43set\x44args\xa0".to_vec(),
+        3 => b"\xa1\x44name\x43off".to_vec(),
         4 => {
             let length = random.pick(&[100, 2047, LONGEST_COMMAND]);
             command_of(length, random)

@@ -5,11 +5,10 @@ use crate::item::{self, bytes, write, Item};
 use crate::random::Random;
 use crate::Case;
 
+/// What is None is missing in the outer map.
 pub struct Draft {
     pub name: Option<Item>,
-    pub args: Vec<(Item, Item)>,
-    /// False if the outer map does not hold `args`.
-    pub keep_args: bool,
+    pub args: Option<Vec<(Item, Item)>>,
     pub redirect: Option<Item>,
     /// Further entries of the outer map.
     pub more: Vec<(Item, Item)>,
@@ -19,15 +18,17 @@ impl Draft {
     fn good(random: &mut Random) -> Draft {
         let mut draft = Draft {
             name: Some(bytes(b"set")),
-            args: Vec::new(),
-            keep_args: true,
+            args: None,
             redirect: None,
             more: Vec::new(),
         };
         let length = random.between(1, 12);
         draft.rename(length, random);
-        for _ in 0..random.pick(&[0, 1, 1, 2, 3, 4, 6, 9]) {
-            draft.add_argument(random, argument);
+        if !random.percent(15) {
+            draft.args = Some(Vec::new());
+            for _ in 0..random.pick(&[0, 1, 1, 2, 3, 4, 6, 9]) {
+                draft.add_argument(random, argument);
+            }
         }
         if random.percent(25) {
             draft.redirect = Some(Item::Map(vec![(
@@ -42,6 +43,11 @@ impl Draft {
         self.name = Some(Item::Bytes(random.bytes(length)));
     }
 
+    /// The entries of `args`, for a change of them. From then on it is there.
+    pub fn entries(&mut self) -> &mut Vec<(Item, Item)> {
+        self.args.get_or_insert_default()
+    }
+
     /// Adds an argument under a key that is not there yet.
     pub fn add_argument(&mut self, random: &mut Random, make: impl FnOnce(&mut Random) -> Item) {
         let mut key = argument_key(random);
@@ -49,24 +55,25 @@ impl Draft {
             key.push(random.pick(b"ab\0\xff"));
         }
         let value = make(random);
-        self.args.push((Item::Bytes(key), value));
+        self.entries().push((Item::Bytes(key), value));
     }
 
     fn has(&self, key: &[u8]) -> bool {
         self.args
             .iter()
+            .flatten()
             .any(|(held, _)| matches!(held, Item::Bytes(content) if content == key))
     }
 
     /// The outer map, its entries and those of `args` in any order.
-    fn into_item(mut self, random: &mut Random) -> Item {
+    fn into_item(self, random: &mut Random) -> Item {
         let mut entries = self.more;
         if let Some(name) = self.name {
             entries.push((bytes(b"name"), name));
         }
-        if self.keep_args {
-            random.shuffle(&mut self.args);
-            entries.push((bytes(b"args"), Item::Map(self.args)));
+        if let Some(mut args) = self.args {
+            random.shuffle(&mut args);
+            entries.push((bytes(b"args"), Item::Map(args)));
         }
         if let Some(redirect) = self.redirect {
             entries.push((bytes(b"redirect"), redirect));
@@ -171,7 +178,7 @@ fn finish(draft: Draft, random: &mut Random) -> Case {
 /// Mostly a key of `args`. Else one that is likely absent, but near.
 fn lookup_key(draft: &Draft, random: &mut Random) -> Vec<u8> {
     let mut keys: Vec<&Vec<u8>> = Vec::new();
-    collect_keys(&draft.args, &mut keys);
+    collect_keys(draft.args.iter().flatten(), &mut keys);
     if keys.is_empty() {
         return argument_key(random);
     }
@@ -201,7 +208,10 @@ fn lookup_key(draft: &Draft, random: &mut Random) -> Vec<u8> {
     key
 }
 
-fn collect_keys<'d>(entries: &'d [(Item, Item)], keys: &mut Vec<&'d Vec<u8>>) {
+fn collect_keys<'d>(
+    entries: impl IntoIterator<Item = &'d (Item, Item)>,
+    keys: &mut Vec<&'d Vec<u8>>,
+) {
     for (key, _) in entries {
         if let Item::Bytes(content) = key {
             keys.push(content);
@@ -212,9 +222,8 @@ fn collect_keys<'d>(entries: &'d [(Item, Item)], keys: &mut Vec<&'d Vec<u8>>) {
 /// A key of a map inside an argument or of the redirect.
 fn deeper_key(draft: &Draft, random: &mut Random) -> Vec<u8> {
     let mut keys = Vec::new();
-    let values = draft
-        .args
-        .iter()
+    let arguments = draft.args.iter().flatten();
+    let values = arguments
         .map(|(_, value)| value)
         .chain(&draft.redirect);
     for value in values {
@@ -233,27 +242,28 @@ fn deeper_key(draft: &Draft, random: &mut Random) -> Vec<u8> {
 /// twice or with an integer among the keys.
 fn large(random: &mut Random) -> Case {
     let mut draft = Draft::good(random);
-    draft.args.clear();
+    let mut args = Vec::new();
     let count = random.between(100, 700) as u16;
     let width = random.pick(&[2, 3, 6]);
     for number in 0..count {
         let mut key = vec![b'k'; width];
         key[width - 2..].copy_from_slice(&number.to_be_bytes());
-        draft.args.push((Item::Bytes(key), item::plain(random)));
+        args.push((Item::Bytes(key), item::plain(random)));
     }
     match random.below(6) {
         0 => {
-            let first = draft.args[0].0.clone();
-            draft.args.push((first, Item::Unsigned(1)));
+            let first = args[0].0.clone();
+            args.push((first, Item::Unsigned(1)));
         }
         1 => {
-            let place = random.below(draft.args.len());
-            let again = draft.args[place].0.clone();
-            draft.args.push((again, Item::Unsigned(1)));
+            let place = random.below(args.len());
+            let again = args[place].0.clone();
+            args.push((again, Item::Unsigned(1)));
         }
-        2 => draft.args.push((Item::Unsigned(5), Item::Unsigned(1))),
+        2 => args.push((Item::Unsigned(5), Item::Unsigned(1))),
         _ => {}
     }
+    draft.args = Some(args);
     finish(draft, random)
 }
 

@@ -50,15 +50,16 @@ pub fn shape(draft: &mut Draft, random: &mut Random) {
     match random.below(9) {
         0 => draft.rename(random.pick(&[0, 65, 66, 255, 300]), random),
         1 => draft.name = Some(other_than_bytes(random)),
-        2 => draft.name = None,
-        3 => draft.keep_args = false,
+        2 | 3 => draft.name = None,
         4 => {
-            draft.keep_args = false;
+            draft.args = None;
             draft.more.push((bytes(b"args"), other_than_map(random)));
         }
-        5 => draft
-            .args
-            .push((other_plain(random), item::value(random, 2))),
+        5 => {
+            let key = other_plain(random);
+            let value = item::value(random, 2);
+            draft.entries().push((key, value));
+        }
         6 => draft.redirect = Some(other_than_map(random)),
         7 => draft
             .more
@@ -129,19 +130,23 @@ fn other_outer_key(random: &mut Random) -> Item {
 pub fn double(draft: &mut Draft, random: &mut Random) {
     match random.below(6) {
         0 => draft.more.push((bytes(b"name"), bytes(b"again"))),
-        1 => draft.more.push((bytes(b"args"), Item::Map(vec![]))),
+        1 => {
+            draft.entries();
+            draft.more.push((bytes(b"args"), Item::Map(vec![])));
+        }
         2 => {
             draft.redirect = Some(Item::Map(vec![]));
             draft.more.push((bytes(b"redirect"), deeper_double(random)));
         }
         _ => {
-            if draft.args.is_empty() {
+            if draft.entries().is_empty() {
                 draft.add_argument(random, |random| item::value(random, 2));
             }
-            let key = draft.args[random.below(draft.args.len())].0.clone();
+            let entries = draft.entries();
+            let key = entries[random.below(entries.len())].0.clone();
             for _ in 0..random.pick(&[1, 1, 1, 2]) {
                 let value = item::value(random, 2);
-                draft.args.push((key.clone(), value));
+                entries.push((key.clone(), value));
             }
         }
     }
@@ -169,7 +174,7 @@ fn put_somewhere(draft: &mut Draft, random: &mut Random, raw: Item) {
         _ => raw,
     };
     match random.below(12) {
-        0 => draft.args.push((value, item::plain(random))),
+        0 => draft.entries().push((value, item::plain(random))),
         1 => draft.name = Some(value),
         2 => draft.redirect = Some(value),
         3 => draft.redirect = Some(Item::Map(vec![(item::plain(random), value)])),

@@ -71,7 +71,7 @@ impl<'r> Record<'r> {
             found.next().map(|entry| notation(&entry.1))
         };
         let name = under(b"name").expect("a command has a name");
-        let args = under(b"args").expect("a command has arguments");
+        let args = under(b"args").unwrap_or_else(|| notation(&Value::Map(vec![])));
         let mut line = format!("command {request} data {bit} name {name} args {args}");
         if let Some(redirect) = under(b"redirect") {
             line += &format!(" redirect {redirect}");

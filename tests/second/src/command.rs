@@ -31,8 +31,8 @@ type Entries<'a> = Vec<(Value<'a>, Value<'a>)>;
 #[derive(Debug)]
 pub struct Command<'a> {
     pub name: &'a [u8],
-    /// The keys are byte strings, each once.
-    pub args: Entries<'a>,
+    /// The keys are byte strings, each once. None if `args` is missing.
+    pub args: Option<Entries<'a>>,
 }
 
 /// Judges 24 before 25 before 26, each over the whole command.
@@ -43,7 +43,7 @@ pub fn read(bytes: &[u8]) -> Result<Command<'_>, Refusal> {
     };
     let double = has_double_key(&entries);
     let command = shape(entries).ok_or(Refusal::NotACommand)?;
-    if double || has_double_key(&command.args) {
+    if double || has_double_key(command.arguments()) {
         return Err(Refusal::DoubleKey);
     }
     Ok(command)
@@ -66,10 +66,7 @@ fn shape(entries: Entries<'_>) -> Option<Command<'_>> {
             _ => return None,
         }
     }
-    Some(Command {
-        name: name?,
-        args: args?,
-    })
+    Some(Command { name: name?, args })
 }
 
 fn is_name(content: &[u8]) -> bool {
@@ -81,15 +78,20 @@ fn is_args(map: &Entries<'_>) -> bool {
 }
 
 /// The tree holds no heads, so equal values are equal by content.
-fn has_double_key(entries: &Entries<'_>) -> bool {
+fn has_double_key(entries: &[(Value<'_>, Value<'_>)]) -> bool {
     let mut keys: Vec<&Value> = entries.iter().map(|(key, _)| key).collect();
     keys.sort_unstable();
     keys.windows(2).any(|pair| pair[0] == pair[1])
 }
 
 impl<'a> Command<'a> {
+    /// A missing `args` reads as an empty map.
+    fn arguments(&self) -> &[(Value<'a>, Value<'a>)] {
+        self.args.as_deref().unwrap_or_default()
+    }
+
     pub fn argument(&self, key: &[u8]) -> Result<&Value<'a>, Refusal> {
-        self.args
+        self.arguments()
             .iter()
             .find(|(held, _)| matches!(held, Value::Bytes(content) if *content == key))
             .map(|(_, value)| value)
@@ -113,6 +115,11 @@ fn number<T>(answer: Result<T, Refusal>) -> u32 {
 
 pub fn check(command: &[u8]) -> u32 {
     number(read(command))
+}
+
+/// Whether the command passes the check and has no `args`.
+pub fn lacks_args(command: &[u8]) -> bool {
+    read(command).is_ok_and(|command| command.args.is_none())
 }
 
 /// The name's content; no bytes if the command is refused.
@@ -166,7 +173,37 @@ mod tests {
         let bytes = [b"\xa2", NAME, b"\x44args\xa0"].concat();
         let command = read(&bytes).unwrap();
         assert_eq!(command.name, b"set");
-        assert!(command.args.is_empty());
+        assert_eq!(command.args, Some(vec![]));
+    }
+
+    /// E1: `args` may be missing, and `name` may not.
+    #[test]
+    fn missing_args() {
+        let alone = [b"\xa1", NAME].concat();
+        let redirected = [b"\xa2", NAME, b"\x48redirect\xa0"].concat();
+        for bytes in [alone, redirected] {
+            assert!(lacks_args(&bytes));
+            assert_eq!(name(&bytes), b"set");
+            assert_eq!(argument_number(&bytes, b"k"), 6);
+            assert!(argument(&bytes, b"k").is_empty());
+            assert_eq!(integer_number(&bytes, b"k"), 6);
+            assert_eq!(integer(&bytes, b"k"), 0);
+        }
+        assert!(!lacks_args(&with_argument(b"\x05")));
+        assert_eq!(check(b"\xa1\x44args\xa0"), 25);
+        assert_eq!(check(b"\xa0"), 25);
+    }
+
+    /// E1: an `args` that is there is judged as before.
+    #[test]
+    fn present_args() {
+        let of = |args: &[u8]| check(&[b"\xa2", NAME, b"\x44args", args].concat());
+        assert_eq!(of(b"\x80"), 25);
+        assert_eq!(of(b"\xf6"), 25);
+        assert_eq!(of(b"\xa1\x01\x02"), 25);
+        assert_eq!(of(b"\xa2\x41k\x01\x41k\x01"), 26);
+        let twice = [b"\xa3", NAME, b"\x44args\xa0\x44args\xa0"].concat();
+        assert_eq!(check(&twice), 26);
     }
 
     #[test]
@@ -217,11 +254,11 @@ mod tests {
 
     #[test]
     fn lower_numbers_first() {
-        let twice = [b"\xa3", NAME, NAME, b"\x44args\xa0"].concat();
+        let twice = [b"\xa2", NAME, NAME].concat();
         assert_eq!(check(&twice), 26);
-        let twice_no_args = [b"\xa2", NAME, NAME].concat();
-        assert_eq!(check(&twice_no_args), 25);
-        let left_over = [&twice_no_args[..], b"\0"].concat();
+        let twice_no_name = b"\xa2\x44args\xa0\x44args\xa0";
+        assert_eq!(check(twice_no_name), 25);
+        let left_over = [&twice_no_name[..], b"\0"].concat();
         assert_eq!(check(&left_over), 24);
     }
 

@@ -18,23 +18,24 @@ returns-3 : tie.Need-returns-3
 returns-3 c =
     let n = c .before .before in
     let j = n .before .before .before .before .args .j in
-    rw (not-false (j .allowed) (n .before .before .if1 .left), n .name .given .1, not-map (j .args) (c .match2 .keys2))
+    rw (not-false (j .allowed) (n .before .before .if1 .left), n .name .given .1, c .if2 .taken)
 
 returns-4 : tie.Need-returns-4
 returns-4 c =
-    let a = c .before .before in
-    let n = a .before .before .before in
+    let d = c .before in
+    let n = d .before .before in
     let j = n .before .before .before .before .args .j in
-    rw (not-false (j .allowed) (n .before .before .if1 .left), n .name .given .1, a .args2 .given .1, c .if2 .taken)
+    rw (not-false (j .allowed) (n .before .before .if1 .left), n .name .given .1, d .if2 .left, not-map (j .args) (c .match2 .keys2))
 
 returns-5 : tie.Need-returns-5
 returns-5 c =
-    let a = c .before .before in
-    let n = a .before .before .before in
+    let a = c .before in
+    let d = a .before .before in
+    let n = d .before .before in
     let j = n .before .before .before .before .args .j in
-    rw (not-false (j .allowed) (n .before .before .if1 .left), n .name .given .1, a .args2 .given .1, c .if2 .left)
+    rw (not-false (j .allowed) (n .before .before .if1 .left), n .name .given .1, d .if2 .left, a .args2 .given .1)
 
 pub command-of-spec : {M : Type 1} → statement M
 command-of-spec =
     tie.close
-    (tie.spec returns (λ c. search needs) returns-2 (λ c. search needs) returns-3 returns-4 returns-5)
+    (tie.spec returns (λ c. search needs) returns-2 returns-3 (λ c. search needs) returns-4 returns-5)
