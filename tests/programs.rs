@@ -1,7 +1,8 @@
 //! Runs the programs as users do, for what no proof covers.
 //!
 //!     programs pieces PROGRAM FILE         PROGRAM reads FILE in pieces of every size
-//!     programs captures PROGRAM SEED COUNT PROGRAM is `receive`, held to the second implementation
+//!     programs samples PROGRAM FILE..      PROGRAM is `receive`, held to the second implementation on these captures
+//!     programs captures PROGRAM SEED COUNT the same on generated captures
 //!     programs garbled SEED COUNT          prints lines of `replay`, many of them damaged
 //!
 //! A piece is what one read of the program gets. A pipe joins what is
@@ -88,21 +89,39 @@ fn words(number: u8) -> String {
     )
 }
 
+/// What `receive` writes of a capture in pieces of a size. It is what the
+/// second implementation has.
+fn received(program: &str, capture: &[u8], size: usize, name: &str) -> Result<String> {
+    let text = run(program, capture.chunks(size))?;
+    let text = String::from_utf8(text).expect("the program writes text");
+    let wanted = second::capture::lines(capture, words);
+    if text != wanted {
+        fail(&format!(
+            "{name} in pieces of {size}:\n{text}and not\n{wanted}"
+        ));
+    }
+    Ok(text)
+}
+
+fn samples(program: &str, files: &[&str]) -> Result<()> {
+    for file in files {
+        received(program, &fs::read(file)?, LARGEST, file)?;
+    }
+    println!(
+        "programs: {} samples, each as the second implementation has it",
+        files.len()
+    );
+    Ok(())
+}
+
 fn captures(program: &str, seed: u64, count: u64) -> Result<()> {
     let mut tally = Tally::default();
     for index in 0..count {
         let capture = generate::capture(seed, index);
         let random = &mut Random::new(index);
         let size = random.pick(&[1, 2, 3, 7, 8, 9, 50, 1000, LARGEST]);
-        let text = run(program, capture.chunks(size))?;
-        let text = String::from_utf8(text).expect("the program writes text");
-        let wanted = second::capture::lines(&capture, words);
-        if text != wanted {
-            fail(&format!(
-                "seed {seed}, capture {index} in pieces of {size}:\n{text}and not\n{wanted}"
-            ));
-        }
-        tally.add(&text);
+        let name = format!("seed {seed}, capture {index}");
+        tally.add(&received(program, &capture, size, &name)?);
     }
     if let Err(reason) = tally.check() {
         fail(&reason);
@@ -134,8 +153,11 @@ fn main() -> Result<()> {
     let number = |word: &str| word.parse().expect("a number");
     match words[..] {
         ["pieces", program, file] => pieces(program, file),
+        ["samples", program, ref files @ ..] if !files.is_empty() => samples(program, files),
         ["captures", program, seed, count] => captures(program, number(seed), number(count)),
         ["garbled", seed, count] => garbled(number(seed), number(count)),
-        _ => fail("pieces PROGRAM FILE, captures PROGRAM SEED COUNT or garbled SEED COUNT"),
+        _ => fail(
+            "pieces PROGRAM FILE, samples PROGRAM FILE.., captures PROGRAM SEED COUNT or garbled SEED COUNT",
+        ),
     }
 }

@@ -4,7 +4,8 @@ rust_program tests/programs.rs "$out/programs" "$out"
 receive=target/bin/receive
 replay=target/bin/replay
 
-# The samples are those that make.rs makes, and receive writes of them what the documents show.
+# The samples are those that make.rs makes, but for Mercurial's, which needs Mercurial. Of each, receive writes what the
+# documents show, and what the second implementation has.
 rust -o "$out/make" samples/make.rs
 mkdir "$out/samples"
 "$out/make" "$out/samples" >"$out/samples/stdin"
@@ -17,15 +18,19 @@ shows() {
         return 1
     }
 }
+for capture in "$out"/samples/*.capture; do
+    cmp "$capture" "samples/$(basename "$capture")"
+done
 for capture in samples/*.capture; do
-    cmp "$capture" "$out/$capture"
     shows samples/README.md "$capture"
 done
+"$out/programs" samples "$receive" samples/*.capture
 shows README.md samples/two-laptops.capture
 must_fail 'does not show' shows README.md samples/damaged.capture
 
 # Pieces of every size; a program that reads once only is found out.
 "$out/programs" pieces "$receive" crates/receive/stdin
+"$out/programs" pieces "$receive" samples/mercurial.capture
 "$out/programs" pieces "$replay" crates/replay/stdin
 printf '#!/bin/sh\nexec dd bs=65536 count=1 status=none\n' >"$out/reads_once"
 chmod +x "$out/reads_once"
@@ -40,6 +45,7 @@ cat crates/receive/stdin | "$receive" | cmp - crates/receive/stdout
 # Captures of any bytes, and lines of any bytes.
 "$out/programs" captures "$receive" 1 "$captures"
 must_fail 'and not$' "$wrong_notation/programs" captures "$receive" 1 "$captures"
+must_fail 'and not$' "$wrong_notation/programs" samples "$receive" samples/mercurial.capture
 answered=0
 "$out/programs" garbled 1 "$garbled" >"$out/lines"
 compare_lines "$out/lines" "$out/second_replay"
