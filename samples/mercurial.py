@@ -12,7 +12,10 @@ import sys
 
 # This folder goes first in the path, and this file has the package's name.
 del sys.path[0]
-from mercurial import ui, wireprotoframing
+try:
+    from mercurial import ui, wireprotoframing
+except ImportError:
+    sys.exit("mercurial.py: the Python that runs this has no package mercurial; Debian's is for /usr/bin/python3")
 
 # Mercurial's own limit, 32,768, is above the 4,096 that the channel takes. This one is lower still, so that commands and data
 # are cut into several frames.
@@ -24,7 +27,7 @@ wireprotoframing.createcommandframes = functools.partial(wireprotoframing.create
 def call(reactor, name, args, data=None, redirect=None):
     """The frames of a command."""
     datafh = None if data is None else io.BytesIO(data)
-    request, action, meta = reactor.callcommand(name, args, datafh=datafh, redirect=redirect)
+    _, action, meta = reactor.callcommand(name, args, datafh=datafh, redirect=redirect)
     assert action == b'sendframes'
     return meta[b'framegen']
 

@@ -213,7 +213,7 @@ fn read_fields(s: &[u8], n: u64, at: usize, starts: &mut [u16], stops: &mut [u16
     }
 }
 
-// The command that a judgement of all entries shows.
+// The command that a judgement of all entries shows. A missing `args` reads as an empty map.
 fn command_of(j: Judged) -> Checked
     ensures { λ r. ⌜ r ≡ commandOf j ⌝ }
 {
