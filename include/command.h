@@ -7,7 +7,8 @@
 #include <stddef.h>
 #include <stdint.h>
 
-/* 0, 24, 25 or 26. */
+/* 0, 24, 25 or 26. A command needs `name`; `args` and `redirect` may be
+ * missing, and a missing `args` reads as an empty map. */
 uint32_t command_check(const uint8_t *command, size_t length);
 
 /* The check's number, then 6 if the key is absent, else 0. */
