@@ -1,5 +1,5 @@
 -- What the proofs of several functions use.
-mod Answers
+pub mod Answers
 mod Cases
 mod Signed
 pub mod Empty

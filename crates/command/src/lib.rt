@@ -9,13 +9,13 @@ ghost use Rattle.command.specs.Command.{checked, numberOf};
 ghost use Rattle.command.specs.Lookup.{placeNumber, numberNumber, numberValue, signedOf, nameOf, argumentAt, partAt, integerAt};
 
 // Where an argument's value starts and stops, or the refusal number.
-enum Place {
+pub enum Place {
     Found(usize, usize),
     NotFound(u32),
 }
 
 // An argument as a signed integer, or the refusal number.
-enum Number {
+pub enum Number {
     Whole(i64),
     NoNumber(u32),
 }
@@ -79,7 +79,7 @@ pub fn name(command: &[u8]) -> &[u8]
 }
 
 // Where the value of an argument stands.
-fn argument_at(command: &[u8], key: &[u8]) -> Place
+pub fn argument_at(command: &[u8], key: &[u8]) -> Place
     ensures { λ r. ⌜ r ≡ argumentAt (now (command .entry)) (now (key .entry)) ⌝ }
 {
     let c = check(command);
@@ -154,7 +154,7 @@ fn signed_of(x: Item) -> Number
 }
 
 // An argument as a signed integer, or its refusal number.
-fn integer_at(command: &[u8], key: &[u8]) -> Number
+pub fn integer_at(command: &[u8], key: &[u8]) -> Number
     ensures { λ r. ⌜ r ≡ integerAt (now (command .entry)) (now (key .entry)) ⌝ }
 {
     let place = argument_at(command, key);

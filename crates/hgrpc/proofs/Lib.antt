@@ -1,0 +1,6 @@
+-- Laws of the layout, of loops over it, and of the calls' answers.
+mod FieldLaws
+mod Loops
+mod Places
+mod CallLaws
+pub mod PartLaws
