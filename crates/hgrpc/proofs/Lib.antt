@@ -3,4 +3,5 @@ mod FieldLaws
 mod Loops
 mod Places
 mod CallLaws
+pub mod StateLaws
 pub mod PartLaws

@@ -28,7 +28,7 @@ loop-again c =
       l .loop .inv .1,
       length-set (l .loop .slots) i _ ∙ l .loop .inv .2,
       filled-more freeSlot (l .loop .slots) g i _ (l .loop .inv .3) (omega arith) (omega (arith, length-getAll slot 8 (drop slotsAt b)))
-      (c .slot-at .ensures ∙ sym (getAll-at slot 8 i slotsAt b freeSlot (omega arith))),
+          (c .slot-at .ensures ∙ sym (getAll-at slot 8 i slotsAt b freeSlot (omega arith))),
     )
 
 returns : tie.Need-returns Inv-loop μ-loop
