@@ -4,4 +4,5 @@ mod Loops
 mod Places
 mod CallLaws
 pub mod StateLaws
+pub mod Sessions
 pub mod PartLaws

@@ -15,7 +15,7 @@ use Rattle.channel.specs.Channel.{shape, channel}
 use Rattle.command.specs.Lookup.{nameOf, argumentAt, partAt}
 use Rattle.demands.specs.Demands.{Sound, Fed, freshOn}
 use Rattle.hgrpc.specs.State.{encode, decode}
-use Rattle.hgrpc.specs.Calls.{kept, answer, freshAnswer, feedAnswer, finishAnswer, nameAnswer, argumentAnswer}
+use Rattle.hgrpc.specs.Calls.{kept, answer, feedAnswer, finishAnswer, nameAnswer, argumentAnswer}
 
 -- ---- the state's bytes
 

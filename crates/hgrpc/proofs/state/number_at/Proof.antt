@@ -1,7 +1,6 @@
 -- `hgrpc::state::number_at` meets its contract, by the two bytes.
 -- Assumes nothing.
 use mathlib.Core.Path.{sym, _∙_}
-use native.Mathlib.Omega.{arith}
 use borrow.Author.Needs.{needs}
 use Rattle.hgrpc.proofs.Places.{two-get}
 use Rattle.hgrpc.proofs.state.number_at.Statement.{statement}

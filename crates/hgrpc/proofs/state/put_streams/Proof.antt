@@ -3,7 +3,7 @@
 use Prim.Native.Nat.{_+_, _≤_, _-_}
 use mathlib.Core.Path.{_≡_, refl, _∙_}
 use native.Mathlib.Omega.{arith}
-use lib.ListN.{length, take, length-set}
+use lib.ListN.{length, length-set}
 use borrow.Author.Needs.{needs}
 use Rattle.hgrpc.specs.State.{flag, streamsAt, stateLength}
 use Rattle.hgrpc.proofs.Loops.{putTo, put-none, put-all}

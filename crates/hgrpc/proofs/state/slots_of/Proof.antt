@@ -1,6 +1,6 @@
 -- `hgrpc::state::slots_of` meets its contract. The loop's invariant: the first i slots are those of the bytes.
 -- Assumes nothing.
-use Prim.Native.Nat.{_≤_, _-_, _*_}
+use Prim.Native.Nat.{_≤_, _-_}
 use mathlib.Core.Path.{_≡_, refl, sym, _∙_}
 use native.Mathlib.Omega.{arith}
 use lib.ListN.{length, take, drop, length-set}
