@@ -19,34 +19,49 @@ pub unsafe extern "C" fn second_lacks_args(command: *const u8, length: usize) ->
     command::lacks_args(from_raw_parts(command, length)).into()
 }
 
+/// Where a part of the command stands, and its length; 0 and 0 if it is
+/// refused.
+unsafe fn place(command: &[u8], number: u32, part: &[u8], at: *mut usize, size: *mut usize) {
+    (*at, *size) = match number {
+        0 => (
+            part.as_ptr().offset_from(command.as_ptr()) as usize,
+            part.len(),
+        ),
+        _ => (0, 0),
+    };
+}
+
 /// # Safety
-/// As above.
+/// As above; the other pointers are to places for a number.
 #[no_mangle]
-pub unsafe extern "C" fn second_argument_number(
+pub unsafe extern "C" fn second_name(
     command: *const u8,
     length: usize,
-    key: *const u8,
-    key_length: usize,
+    at: *mut usize,
+    size: *mut usize,
 ) -> u32 {
-    command::argument_number(
-        from_raw_parts(command, length),
-        from_raw_parts(key, key_length),
-    )
+    let command = from_raw_parts(command, length);
+    let number = command::check(command);
+    place(command, number, command::name(command), at, size);
+    number
 }
 
 /// # Safety
 /// As above.
 #[no_mangle]
-pub unsafe extern "C" fn second_integer_number(
+pub unsafe extern "C" fn second_argument(
     command: *const u8,
     length: usize,
     key: *const u8,
     key_length: usize,
+    at: *mut usize,
+    size: *mut usize,
 ) -> u32 {
-    command::integer_number(
-        from_raw_parts(command, length),
-        from_raw_parts(key, key_length),
-    )
+    let command = from_raw_parts(command, length);
+    let key = from_raw_parts(key, key_length);
+    let number = command::argument_number(command, key);
+    place(command, number, command::argument(command, key), at, size);
+    number
 }
 
 /// # Safety
@@ -57,11 +72,12 @@ pub unsafe extern "C" fn second_integer(
     length: usize,
     key: *const u8,
     key_length: usize,
-) -> i64 {
-    command::integer(
-        from_raw_parts(command, length),
-        from_raw_parts(key, key_length),
-    )
+    value: *mut i64,
+) -> u32 {
+    let command = from_raw_parts(command, length);
+    let key = from_raw_parts(key, key_length);
+    *value = command::integer(command, key);
+    command::integer_number(command, key)
 }
 
 #[no_mangle]

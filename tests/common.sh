@@ -11,9 +11,41 @@ rust_program() {
         "$@" "$file"
 }
 
+# The second implementation.
+build_second() {
+    rust -C opt-level=3 --crate-type rlib --crate-name second --out-dir "$out" tests/second/src/lib.rs
+}
+
+# The bindings, with the archive in them.
+build_bindings() {
+    rust -C opt-level=3 --crate-type rlib --crate-name hgrpc --out-dir "$out" \
+        -L native=target/staticlib -l static=hgrpc bindings/hgrpc.rs
+}
+
+# What answers lines by the archive, on the second implementation in directory $1.
+build_lines() {
+    rust -C opt-level=1 --crate-type rlib --crate-name replay_lines --out-dir "$1" \
+        --extern second="$1/libsecond.rlib" --extern hgrpc="$out/libhgrpc.rlib" \
+        tests/replay_lines/src/lib.rs
+}
+
+# The program that reads the lines of docs/REPLAY.md.
+build_replay() {
+    build_bindings
+    build_lines "$out"
+    rust -C opt-level=1 --crate-name replay -o "$out/replay" -L dependency="$out" \
+        --extern replay_lines="$out/libreplay_lines.rlib" tests/replay.rs
+}
+
+# A program $2 of the Rust file $1 on the archive, with the rlibs in directory $3.
+archive_program() {
+    rust_program "$1" "$2" "$3" -L dependency="$3" -L dependency="$out" --extern hgrpc="$out/libhgrpc.rlib" \
+        --extern replay_lines="$3/libreplay_lines.rlib"
+}
+
 # Runs a command that must fail and print $1.
 must_fail() {
-    local text=$1 log=$out/must_fail.log
+    local text=$1 log=$out/must_fail.$BASHPID.log
     shift
     if "$@" >"$log" 2>&1; then
         echo "no failure: $*"
@@ -26,17 +58,22 @@ must_fail() {
     fi
 }
 
+# Writes file $2, changed by sed's expression $1, to $3.
+change() {
+    sed "$1" "$2" >"$3"
+    if cmp -s "$2" "$3"; then
+        echo "the expression $1 changes nothing in $2"
+        return 1
+    fi
+}
+
 # Makes a wrong copy of the second implementation, named $1, by sed's
 # expression $3 in file $2, compiled at level $4 or 0. `copy` is its folder.
 wrong_copy() {
     copy=$out/wrong/$1
     mkdir -p "$copy"
     cp tests/second/src/*.rs "$copy"
-    sed -i "$3" "$copy/$2"
-    if cmp -s "tests/second/src/$2" "$copy/$2"; then
-        echo "the expression for $1 changes nothing"
-        return 1
-    fi
+    change "$3" "tests/second/src/$2" "$copy/$2"
     rustc --edition 2021 -A warnings -C opt-level="${4:-0}" --crate-type rlib --crate-name second \
         --out-dir "$copy" "$copy/lib.rs"
     wrongs=$((wrongs + 1))

@@ -1,5 +1,5 @@
-/* Compares the archive's four calls with the second implementation, from C
- * as the desk tool calls them.
+/* Compares the archive's calls on commands with the second implementation,
+ * from C.
  *
  *     compare [commands [seed]]
  *
@@ -14,59 +14,75 @@
 #include <sys/mman.h>
 #include <unistd.h>
 
-#include "command.h"
+#include "hgrpc.h"
 #include "second.h"
 
+#define CALLS 4
 #define ANSWERS 7
 static const uint32_t numbers[ANSWERS] = {0, 24, 25, 26, 6, 7, 8};
-
-struct answers {
-    uint32_t check;
-    uint32_t argument_number;
-    uint32_t integer_number;
-    int64_t integer;
-};
 
 struct slice {
     const uint8_t *bytes;
     size_t length;
 };
 
+/* What a lookup answers: its number, and where the part stands. */
+struct part {
+    uint32_t number;
+    size_t at, size;
+};
+
+struct answers {
+    uint32_t check;
+    struct part name, argument;
+    uint32_t integer_number;
+    int64_t integer;
+};
+
 /* The calls of one implementation. */
 struct side {
     uint32_t (*check)(const uint8_t *, size_t);
-    uint32_t (*argument_number)(const uint8_t *, size_t, const uint8_t *, size_t);
-    uint32_t (*integer_number)(const uint8_t *, size_t, const uint8_t *, size_t);
-    int64_t (*integer)(const uint8_t *, size_t, const uint8_t *, size_t);
+    uint32_t (*name)(const uint8_t *, size_t, size_t *, size_t *);
+    uint32_t (*argument)(const uint8_t *, size_t, const uint8_t *, size_t, size_t *, size_t *);
+    uint32_t (*integer)(const uint8_t *, size_t, const uint8_t *, size_t, int64_t *);
 };
 
 static const struct side archive_calls = {
-    command_check, command_argument_number, command_integer_number, command_integer};
+    hgrpc_check, hgrpc_name, hgrpc_argument, hgrpc_integer};
 static const struct side second_calls = {
-    second_check, second_argument_number, second_integer_number, second_integer};
+    second_check, second_name, second_argument, second_integer};
 
 static struct answers ask(const struct side *side, struct slice command, struct slice key)
 {
     const uint8_t *c = command.bytes, *k = key.bytes;
-    struct answers answers;
-    answers.check = side->check(c, command.length);
-    answers.argument_number = side->argument_number(c, command.length, k, key.length);
-    answers.integer_number = side->integer_number(c, command.length, k, key.length);
-    answers.integer = side->integer(c, command.length, k, key.length);
-    return answers;
+    size_t length = command.length;
+    struct answers a;
+    memset(&a, 0x55, sizeof a);
+    a.check = side->check(c, length);
+    a.name.number = side->name(c, length, &a.name.at, &a.name.size);
+    a.argument.number = side->argument(c, length, k, key.length, &a.argument.at, &a.argument.size);
+    a.integer_number = side->integer(c, length, k, key.length, &a.integer);
+    return a;
+}
+
+static int equal_parts(struct part one, struct part other)
+{
+    return one.number == other.number && one.at == other.at && one.size == other.size;
 }
 
 static int equal(struct answers one, struct answers other)
 {
-    return one.check == other.check && one.argument_number == other.argument_number
+    return one.check == other.check && equal_parts(one.name, other.name)
+        && equal_parts(one.argument, other.argument)
         && one.integer_number == other.integer_number && one.integer == other.integer;
 }
 
-static void print_answers(const char *side, struct answers answers)
+static void print_answers(const char *side, struct answers a)
 {
-    printf("%s check %" PRIu32 ", argument_number %" PRIu32 ", integer_number %" PRIu32
-           ", integer %" PRId64 "\n",
-           side, answers.check, answers.argument_number, answers.integer_number, answers.integer);
+    printf("%s check %" PRIu32 ", name %" PRIu32 " %zu %zu, argument %" PRIu32
+           " %zu %zu, integer %" PRIu32 " %" PRId64 "\n",
+           side, a.check, a.name.number, a.name.at, a.name.size, a.argument.number,
+           a.argument.at, a.argument.size, a.integer_number, a.integer);
 }
 
 static void print_hex(const char *what, struct slice slice)
@@ -183,10 +199,11 @@ int main(int argc, char **argv)
 {
     uint64_t commands = argc > 1 ? strtoull(argv[1], NULL, 10) : 300000;
     uint64_t seed = argc > 2 ? strtoull(argv[2], NULL, 10) : 2;
-    struct count counts[3] = {
-        {"command_check", 4, {0}},
-        {"command_argument_number", 5, {0}},
-        {"command_integer_number", 7, {0}},
+    struct count counts[CALLS] = {
+        {"hgrpc_check", 4, {0}},
+        {"hgrpc_name", 4, {0}},
+        {"hgrpc_argument", 5, {0}},
+        {"hgrpc_integer", 7, {0}},
     };
     struct fenced for_command = make_fenced(1 << 18);
     struct fenced for_key = make_fenced(1 << 14);
@@ -196,13 +213,14 @@ int main(int argc, char **argv)
     for (uint64_t index = 0; index < commands; index++) {
         struct answers answers = compare(for_command, for_key, seed, index, &lacking);
         add(&counts[0], answers.check);
-        add(&counts[1], answers.argument_number);
-        add(&counts[2], answers.integer_number);
+        add(&counts[1], answers.name.number);
+        add(&counts[2], answers.argument.number);
+        add(&counts[3], answers.integer_number);
     }
-    for (int i = 0; i < 3; i++)
+    for (int i = 0; i < CALLS; i++)
         print_count(&counts[i]);
     printf("accepted without args    %" PRIu64 "\n", lacking);
-    for (int i = 0; i < 3; i++)
+    for (int i = 0; i < CALLS; i++)
         fail_if_rare(&counts[i], commands);
     if (lacking * 50 < commands) {
         printf("compare (C): accepted without args in less than 2%%\n");

@@ -1,4 +1,4 @@
-//! Compares the archive's four calls with the second implementation.
+//! Compares the archive's calls on commands with the second implementation.
 //!
 //!     compare [commands [seed]]
 
@@ -6,57 +6,51 @@ use generate::{fixed, Case};
 use second::command;
 use std::process::exit;
 
-extern "C" {
-    fn command_check(command: *const u8, length: usize) -> u32;
-    fn command_argument_number(
-        command: *const u8,
-        length: usize,
-        key: *const u8,
-        key_length: usize,
-    ) -> u32;
-    fn command_integer_number(
-        command: *const u8,
-        length: usize,
-        key: *const u8,
-        key_length: usize,
-    ) -> u32;
-    fn command_integer(command: *const u8, length: usize, key: *const u8, key_length: usize)
-        -> i64;
-}
-
 #[derive(Debug, PartialEq)]
 struct Answers {
     check: u32,
-    argument_number: u32,
-    integer_number: u32,
-    integer: i64,
+    name: Result<Vec<u8>, u32>,
+    argument: Result<Vec<u8>, u32>,
+    integer: Result<i64, u32>,
 }
 
-fn second_answers(case: &Case) -> Answers {
+fn number<T>(answer: &Result<T, u32>) -> u32 {
+    answer.as_ref().err().copied().unwrap_or(0)
+}
+
+/// What a call answers, if its number is 0.
+fn numbered<T>(number: u32, answer: T) -> Result<T, u32> {
+    match number {
+        0 => Ok(answer),
+        _ => Err(number),
+    }
+}
+
+fn second_answers(Case { command, key }: &Case) -> Answers {
+    let check = command::check(command);
+    let argument = command::argument(command, key).to_vec();
     Answers {
-        check: command::check(&case.command),
-        argument_number: command::argument_number(&case.command, &case.key),
-        integer_number: command::integer_number(&case.command, &case.key),
-        integer: command::integer(&case.command, &case.key),
+        check,
+        name: numbered(check, command::name(command).to_vec()),
+        argument: numbered(command::argument_number(command, key), argument),
+        integer: numbered(
+            command::integer_number(command, key),
+            command::integer(command, key),
+        ),
     }
 }
 
 /// The archive's answers, on buffers of exactly the right size.
 fn archive_answers(case: &Case) -> Answers {
-    let bytes: Box<[u8]> = case.command.as_slice().into();
-    let key_bytes: Box<[u8]> = case.key.as_slice().into();
-    let (command, length) = (bytes.as_ptr(), bytes.len());
-    let (key, key_length) = (key_bytes.as_ptr(), key_bytes.len());
-    // The calls only read, and each pointer comes with its own length.
-    let answers = unsafe {
-        Answers {
-            check: command_check(command, length),
-            argument_number: command_argument_number(command, length, key, key_length),
-            integer_number: command_integer_number(command, length, key, key_length),
-            integer: command_integer(command, length, key, key_length),
-        }
+    let command: Box<[u8]> = case.command.as_slice().into();
+    let key: Box<[u8]> = case.key.as_slice().into();
+    let answers = Answers {
+        check: hgrpc::check(&command),
+        name: hgrpc::name(&command).map(<[u8]>::to_vec),
+        argument: hgrpc::argument(&command, &key).map(<[u8]>::to_vec),
+        integer: hgrpc::integer(&command, &key),
     };
-    if *bytes != *case.command || *key_bytes != *case.key {
+    if *command != *case.command || *key != *case.key {
         fail(case, "the lent bytes were changed");
     }
     answers
@@ -95,25 +89,40 @@ fn traces() {
         command: vec![],
         key: b"k".to_vec(),
     };
-    let table = [
-        ("T8", fixed::with_argument(least), [0, 0, 0], i64::MIN),
-        ("T8", fixed::with_argument(below), [0, 0, 8], 0),
-        ("T9", fixed::with_argument(b"\x20"), [0, 0, 0], -1),
-        ("T10", empty, [24, 24, 24], 0),
-        ("T11", fixed::with_argument(eight), [0, 0, 7], 0),
-        ("T11", fixed::with_argument(nine), [24, 24, 24], 0),
-    ];
-    for (trace, case, [check, argument_number, integer_number], integer) in table {
-        let expected = Answers {
-            check,
-            argument_number,
-            integer_number,
-            integer,
-        };
-        let answers = compare(&case, trace);
-        if answers != expected {
-            fail(&case, &format!("{trace} is {answers:?}, not {expected:?}"));
-        }
+    let accepted = |item: &[u8], integer| Answers {
+        check: 0,
+        name: Ok(b"set".to_vec()),
+        argument: Ok(item.to_vec()),
+        integer,
+    };
+    let with = fixed::with_argument;
+    for (trace, case, expected) in [
+        ("T8", with(least), accepted(least, Ok(i64::MIN))),
+        ("T8", with(below), accepted(below, Err(8))),
+        ("T9", with(b"\x20"), accepted(b"\x20", Ok(-1))),
+        ("T10", empty, refused(24)),
+        ("T11", with(eight), accepted(eight, Err(7))),
+        ("T11", with(nine), refused(24)),
+    ] {
+        compare_to(&case, trace, &expected);
+    }
+}
+
+/// The answers on a command that the check refuses.
+fn refused(number: u32) -> Answers {
+    Answers {
+        check: number,
+        name: Err(number),
+        argument: Err(number),
+        integer: Err(number),
+    }
+}
+
+/// Compares, and holds the answers to those that a paper gives.
+fn compare_to(case: &Case, trace: &str, expected: &Answers) {
+    let answers = compare(case, trace);
+    if answers != *expected {
+        fail(case, &format!("{trace} is {answers:?}, not {expected:?}"));
     }
 }
 
@@ -121,25 +130,21 @@ fn traces() {
 /// and an `args` of another type.
 fn without_args() {
     let name = b"\x44name\x43off";
-    let table = [
-        ([b"\xa1", &name[..], b""].concat(), 0, 6),
-        ([b"\xa2", &name[..], b"\x48redirect\xa0"].concat(), 0, 6),
-        (b"\xa1\x44args\xa0".to_vec(), 25, 25),
-        ([b"\xa2", &name[..], b"\x44args\x80"].concat(), 25, 25),
-    ];
-    for (command, check, number) in table {
+    let accepted = || Answers {
+        check: 0,
+        name: Ok(b"off".to_vec()),
+        argument: Err(6),
+        integer: Err(6),
+    };
+    let redirected = [b"\xa2", &name[..], b"\x48redirect\xa0"].concat();
+    for (command, expected) in [
+        ([b"\xa1", &name[..]].concat(), accepted()),
+        (redirected, accepted()),
+        (b"\xa1\x44args\xa0".to_vec(), refused(25)),
+        ([b"\xa2", &name[..], b"\x44args\x80"].concat(), refused(25)),
+    ] {
         let key = b"k".to_vec();
-        let case = Case { command, key };
-        let answers = compare(&case, "E1");
-        let expected = Answers {
-            check,
-            argument_number: number,
-            integer_number: number,
-            integer: 0,
-        };
-        if answers != expected {
-            fail(&case, &format!("E1 is {answers:?}, not {expected:?}"));
-        }
+        compare_to(&Case { command, key }, "E1", &expected);
     }
 }
 
@@ -190,6 +195,27 @@ fn argument(place: usize, default: u64) -> u64 {
         .map_or(default, |text| text.parse().expect("a number"))
 }
 
+/// The calls on the commands of a seed, and how many of these were accepted
+/// without `args`.
+fn generated(seed: u64, commands: u64, counts: &mut [Count]) -> u64 {
+    let mut lacking = 0;
+    for index in 0..commands {
+        let case = generate::case(seed, index);
+        let answers = compare(&case, &format!("seed {seed}, index {index}"));
+        let numbers = [
+            answers.check,
+            number(&answers.name),
+            number(&answers.argument),
+            number(&answers.integer),
+        ];
+        for (count, number) in counts.iter_mut().zip(numbers) {
+            count.add(number);
+        }
+        lacking += u64::from(command::lacks_args(&case.command));
+    }
+    lacking
+}
+
 fn main() {
     let commands = argument(1, 300_000);
     let seed = argument(2, 1);
@@ -200,34 +226,20 @@ fn main() {
         compare(&case, "an example of RFC 7049");
     }
     let mut counts = [
-        Count::new("command_check", 4),
-        Count::new("command_argument_number", 5),
-        Count::new("command_integer_number", 7),
+        Count::new("hgrpc_check", 4),
+        Count::new("hgrpc_name", 4),
+        Count::new("hgrpc_argument", 5),
+        Count::new("hgrpc_integer", 7),
     ];
-    let mut lacking = 0;
-    for index in 0..commands {
-        let case = generate::case(seed, index);
-        let answers = compare(&case, &format!("seed {seed}, index {index}"));
-        let numbers = [
-            answers.check,
-            answers.argument_number,
-            answers.integer_number,
-        ];
-        for (count, number) in counts.iter_mut().zip(numbers) {
-            count.add(number);
-        }
-        lacking += u64::from(command::lacks_args(&case.command));
-    }
+    let lacking = generated(seed, commands, &mut counts);
     for count in &counts {
         count.print();
     }
     println!("accepted without args    {lacking}");
     for count in &counts {
         if let Some(number) = count.rare(commands) {
-            println!(
-                "compare (Rust): {} gave {number} in less than 1%",
-                count.call
-            );
+            let call = count.call;
+            println!("compare (Rust): {call} gave {number} in less than 1%");
             exit(1);
         }
     }

@@ -3,12 +3,16 @@
 //!     programs pieces PROGRAM FILE         PROGRAM reads FILE in pieces of every size
 //!     programs samples PROGRAM FILE..      PROGRAM is `receive`, held to the second implementation on these captures
 //!     programs captures PROGRAM SEED COUNT the same on generated captures
+//!     programs board PROGRAM FILE..        PROGRAM is the board of examples/, on these captures
+//!     programs boards PROGRAM SEED COUNT   the same on generated captures
 //!     programs garbled SEED COUNT          prints lines of `replay`, many of them damaged
 //!
 //! A piece is what one read of the program gets. A pipe joins what is
 //! written to it, so the pieces come through a socket that keeps them apart;
 //! an empty one stands for the end.
 
+#[path = "programs/board.rs"]
+mod board;
 #[path = "programs/tally.rs"]
 mod tally;
 
@@ -155,9 +159,9 @@ fn main() -> Result<()> {
         ["pieces", program, file] => pieces(program, file),
         ["samples", program, ref files @ ..] if !files.is_empty() => samples(program, files),
         ["captures", program, seed, count] => captures(program, number(seed), number(count)),
+        ["board", program, ref files @ ..] if !files.is_empty() => board::samples(program, files),
+        ["boards", program, seed, count] => board::captures(program, number(seed), number(count)),
         ["garbled", seed, count] => garbled(number(seed), number(count)),
-        _ => fail(
-            "pieces PROGRAM FILE, samples PROGRAM FILE.., captures PROGRAM SEED COUNT or garbled SEED COUNT",
-        ),
+        _ => fail("pieces, samples, captures, board, boards or garbled, and the words behind it"),
     }
 }

@@ -1,8 +1,8 @@
 # The programs run as users run them, for what no proof covers.
 
-rust_program tests/programs.rs "$out/programs" "$out"
 receive=target/bin/receive
-replay=target/bin/replay
+replay=$out/replay
+lines=tests/replay_lines/requests.txt
 
 # The samples are those that make.rs makes, but for Mercurial's, which needs Mercurial. Of each, receive writes what the
 # documents show, and what the second implementation has.
@@ -31,10 +31,10 @@ must_fail 'does not show' shows README.md samples/damaged.capture
 # Pieces of every size; a program that reads once only is found out.
 "$out/programs" pieces "$receive" crates/receive/stdin
 "$out/programs" pieces "$receive" samples/mercurial.capture
-"$out/programs" pieces "$replay" crates/replay/stdin
+"$out/programs" pieces "$replay" "$lines"
 printf '#!/bin/sh\nexec dd bs=65536 count=1 status=none\n' >"$out/reads_once"
 chmod +x "$out/reads_once"
-must_fail 'writes something else in pieces of' "$out/programs" pieces "$out/reads_once" crates/replay/stdin
+must_fail 'writes something else in pieces of' "$out/programs" pieces "$out/reads_once" "$lines"
 cat crates/receive/stdin | "$receive" | cmp - crates/receive/stdout
 (
     head -c 100 crates/receive/stdin
@@ -51,6 +51,8 @@ answered=0
 compare_lines "$out/lines" "$out/second_replay"
 bad=$(grep -c '^bad$' "$out/replay.answers")
 [ "$bad" -ge 1000 ] || { echo "only $bad of the damaged lines are bad"; exit 1; }
+wide=$(grep -acE '^set .*\b65536\b' "$out/lines")
+[ "$wide" -ge 20 ] || { echo "only $wide lines set a number that does not fit"; exit 1; }
 echo "tests: $answered answers to damaged lines, $bad of them bad, each as the second program's"
 
 # A closed output ends a program on input without end: by the signal (status
@@ -68,21 +70,21 @@ ends_with() {
 }
 capture_again() { while cat samples/two-laptops.capture; do :; done; }
 ends_with 141 "$receive" capture_again
-ends_with 141 "$replay" yes state
 (
     trap '' PIPE
     ends_with 0 "$receive" capture_again
-    ends_with 0 "$replay" yes state
 )
-for program in "$receive" "$replay"; do
-    timeout 20 "$program" <"crates/$(basename "$program")/stdin" >&-
-done
+timeout 20 "$receive" <crates/receive/stdin >&-
 
 # Input that cannot be read is said in one line.
-for program in "$receive" "$replay"; do
-    text=$("$program" </)
-    [ "$text" = "the input cannot be read" ] || { echo "$program says '$text' of a folder"; exit 1; }
-done
+text=$("$receive" </)
+[ "$text" = "the input cannot be read" ] || { echo "receive says '$text' of a folder"; exit 1; }
+
+# The same of the program of lines, which is written in Rust: it says by its
+# status that something failed.
+ends_with 1 "$replay" yes state 2>"$out/errors"
+grep -q '^the output cannot be written$' "$out/errors"
+must_fail '^the input cannot be read$' "$replay" </
 
 # No program calls an allocator.
 for object in target/obj/*.o; do

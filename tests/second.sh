@@ -4,10 +4,11 @@
 rust --test -C opt-level=1 -o "$out/second_unit" tests/second/src/lib.rs
 "$out/second_unit" --quiet
 rust -C opt-level=3 --crate-type rlib --crate-name generate --out-dir "$out" tests/generate/src/lib.rs
-rust -C opt-level=3 --crate-type rlib --crate-name second --out-dir "$out" tests/second/src/lib.rs
+build_second
 
 rust_program tests/sessions.rs "$out/sessions" "$out"
 rust_program tests/second_replay.rs "$out/second_replay" "$out"
+rust_program tests/programs.rs "$out/programs" "$out"
 "$out/sessions" traces
 "$out/sessions" check 1 "$sessions"
 must_fail '^sessions: ' "$out/sessions" check 1 3
@@ -52,6 +53,17 @@ wrong_reader outer_double command.rs 's/if double || /if /'
 wrong_reader args_double command.rs 's/ || has_double_key(command\.arguments())//'
 wrong_reader negative command.rs 's/-1 - n/-n/'
 wrong_reader range command.rs 's/i64::try_from(n)\.map_err(|_| Refusal::OutOfRange)?/n as i64/'
+# Wrong readings of a state's bytes.
+wrong_bytes() {
+    wrong_copy "$1" bytes.rs "$2" 1
+    wrong_states+=("$copy")
+}
+wrong_states=()
+wrong_bytes high_byte_first 's/&number\.to_le_bytes()\[\.\.count\]/\&number.to_be_bytes()[8 - count..]/; s/bytes\.iter()\.rev()/bytes.iter()/'
+wrong_bytes data_before_phase 's/bytes\.push(slot\.phase as u8);/bytes.push(slot.data.into());/; t; s/bytes\.push(slot\.data\.into());/bytes.push(slot.phase as u8);/; s/match bytes\[2\]/match bytes[3]/; s/flag(&bytes\[3\])/flag(\&bytes[2])/'
+wrong_bytes fifth_phase 's/3 => Phase::Running/3.. => Phase::Running/'
+wrong_bytes bool_of_two 's/1 => Some(true)/1.. => Some(true)/'
+
 wrong_copy notation capture.rs 's/258(\[{}\])/[{}]/'
 rust_program tests/programs.rs "$copy/programs" "$copy"
 wrong_notation=$copy

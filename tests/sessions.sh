@@ -1,11 +1,16 @@
-# Sessions and commands as lines: the program `replay` against the second
-# program.
+# Sessions and commands as lines: the archive, through the program of
+# tests/replay, against the second program.
+
+# Lines and their answers, by hand.
+"$out/replay" <tests/replay_lines/requests.txt | cmp - tests/replay_lines/answers.txt
+"$out/second_replay" <tests/replay_lines/requests.txt | cmp - tests/replay_lines/answers.txt
+(cd / && "$OLDPWD/tests/replay") <tests/replay_lines/requests.txt | cmp - tests/replay_lines/answers.txt
 
 # Has the lines of file $1 answered by `replay` and by the second program $2, and
 # compares the answers. Adds their count to `answered`.
 compare_lines() {
     local lines=$1 second=$2 place
-    target/bin/replay <"$lines" >"$out/replay.answers"
+    "$out/replay" <"$lines" >"$out/replay.answers"
     "$second" <"$lines" >"$out/second.answers"
     if ! cmp -s "$out/replay.answers" "$out/second.answers"; then
         place=$(cmp "$out/replay.answers" "$out/second.answers" 2>&1 | sed -n 's/.*line //p')

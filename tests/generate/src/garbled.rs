@@ -13,6 +13,10 @@ pub fn garbled(seed: u64, index: u64) -> Vec<u8> {
     let random = &mut Random::new(start);
     let mut text = Vec::new();
     for line in session(seed, index) {
+        if line.starts_with("set ") && random.percent(20) {
+            text.extend(too_wide(&line, random).into_bytes());
+            text.push(b'\n');
+        }
         let mut line = line.into_bytes();
         while random.percent(30) {
             damage(&mut line, random);
@@ -71,6 +75,21 @@ fn number(line: &mut Vec<u8>, random: &mut Random) {
         "99999999999999999999999999",
     ]);
     *line = words.join(" ").into_bytes();
+}
+
+/// A line `set` with one number that does not fit its field.
+fn too_wide(line: &str, random: &mut Random) -> String {
+    let mut words: Vec<String> = line.split(' ').map(String::from).collect();
+    let place = random.between(1, words.len() - 2);
+    let number = match place {
+        1 => random.pick(&["256", "65536"]),
+        _ => random.pick(&["65536", "65537", "4294967296", "18446744073709551616"]),
+    };
+    let mut parts: Vec<&str> = words[place].split(':').collect();
+    let last = parts.len() - 1;
+    parts[random.pick(&[0, last])] = number;
+    words[place] = parts.join(":");
+    words.join(" ")
 }
 
 fn noise(random: &mut Random) -> Vec<u8> {

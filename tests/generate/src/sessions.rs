@@ -235,7 +235,7 @@ fn lookups(seed: u64, index: u64, random: &mut Random, lines: &mut Vec<String>) 
     lend(random, lines);
 }
 
-const UNREADABLE: [&str; 28] = [
+const UNREADABLE: [&str; 31] = [
     "fresh",
     "fresh 100001",
     "fresh 20488 256",
@@ -264,6 +264,9 @@ const UNREADABLE: [&str; 28] = [
     "check 0",
     "arg 00",
     "set 0 0 0:f:0:0 -",
+    "set 256 0 0:f:0:0 0:f:0:0 0:f:0:0 0:f:0:0 0:f:0:0 0:f:0:0 0:f:0:0 0:f:0:0 -",
+    "set 0 65536 0:f:0:0 0:f:0:0 0:f:0:0 0:f:0:0 0:f:0:0 0:f:0:0 0:f:0:0 0:f:0:0 -",
+    "set 0 0 1:c:0:65536 0:f:0:0 0:f:0:0 0:f:0:0 0:f:0:0 0:f:0:0 0:f:0:0 0:f:0:0 -",
 ];
 
 /// Lines that cannot be read, between lines that can.

@@ -202,11 +202,11 @@ pub const WAYS: usize = 14;
 /// Puts a state out of shape, at times with a poke that belongs to it.
 pub fn break_shape(start: &mut Start, way: usize, random: &mut Random) -> Option<String> {
     match way {
-        0 => start.pending = random.pick(&[4104, 4105, 65_536, u64::MAX]),
+        0 => start.pending = random.pick(&[4104, 4105, 40_000, 65_535]),
         1 => start.dead = random.between(1, 10) as u8,
         2 => start.dead = random.between(30, 255) as u8,
         3 => {
-            let length = random.pick(&[2049, 2050, 65_536, u64::MAX]);
+            let length = random.pick(&[2049, 2050, 40_000, 65_535]);
             let data = random.percent(50);
             used(start, 'c', data, length, random);
         }

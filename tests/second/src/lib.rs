@@ -2,6 +2,7 @@
 //! A command's bytes are read into a tree of values first and the tree is
 //! judged after. The channel is told by the history of its frames.
 
+pub mod bytes;
 pub mod capture;
 pub mod command;
 pub mod frame;

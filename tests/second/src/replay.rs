@@ -1,5 +1,6 @@
 //! The line interface: each line asks one thing, and its answer is one line.
 
+use crate::bytes::{MOST_LENGTH, MOST_PENDING};
 use crate::command;
 use crate::receiver::Receiver;
 use crate::state::{Phase, Slot, State, SLOTS, WORK};
@@ -197,7 +198,7 @@ fn state(words: &[&str]) -> Option<State> {
     let slots: Option<Vec<Slot>> = slots.iter().map(|word| slot(word)).collect();
     Some(State {
         dead: number(dead, u8::MAX.into())? as u8,
-        pending: number(pending, u64::MAX)?,
+        pending: number(pending, MOST_PENDING)?,
         slots: <[Slot; SLOTS]>::try_from(slots?).ok()?,
         open: streams(open)?,
     })
@@ -222,7 +223,7 @@ fn slot(word: &str) -> Option<Slot> {
             "1" => true,
             _ => return None,
         },
-        length: number(length, u64::MAX)?,
+        length: number(length, MOST_LENGTH)?,
     })
 }
 
@@ -327,11 +328,11 @@ mod tests {
     fn states() {
         let mut replay = Replay::default();
         let slots = "9:c:1:7 0:f:0:0 3:w:1:0 5:r:1:0 0:f:0:0 7:r:0:0 0:f:0:0 65535:c:0:2048";
-        let odd = "0:f:1:9 2:c:1:18446744073709551615 2:w:0:0 5:r:1:1 5:r:1:0 8:f:0:0 1:f:0:0 65535:c:0:1";
+        let odd = "0:f:1:9 2:c:1:65535 2:w:0:0 5:r:1:1 5:r:1:0 8:f:0:0 1:f:0:0 65535:c:0:1";
         for state in [
             format!("0 0 {slots} -"),
             format!("29 4103 {slots} 1,3,255"),
-            format!("255 18446744073709551615 {odd} 129"),
+            format!("255 65535 {odd} 129"),
         ] {
             let set = replay.answer(format!("set {state}").as_bytes());
             assert_eq!(set.as_deref(), Some("set"));
@@ -340,6 +341,7 @@ mod tests {
         }
         let bad = [
             format!("set 256 0 {slots} -"),
+            format!("set 0 65536 {slots} -"),
             format!("set 0 18446744073709551616 {slots} -"),
             format!("set 0 0 {slots} 0:f:0:0 -"),
             format!("set 0 0 {slots} 2"),
@@ -349,6 +351,7 @@ mod tests {
             format!("set 0 0 {slots} 1,"),
             format!("set 0 0 {slots}"),
             format!("set 0 0 {} -", slots.replace("9:c", "65537:c")),
+            format!("set 0 0 {} -", slots.replace("c:1:7", "c:1:65536")),
             format!("set 0 0 {} -", slots.replace("c:1:7", "d:1:7")),
             format!("set 0 0 {} -", slots.replace("c:1:7", "c:2:7")),
         ];

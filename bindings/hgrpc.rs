@@ -1,0 +1,276 @@
+//! The receiving side of one hgrpc channel: bytes of the line go in, records
+//! come out. These are the calls of the archive `libhgrpc.a`, which is for
+//! x86-64 Linux, as safe functions over slices. As a crate of its own:
+//!
+//!     rustc --edition 2021 --crate-type rlib --crate-name hgrpc \
+//!         -L native=target/staticlib -l static=hgrpc bindings/hgrpc.rs
+//!
+//! The caller lends every buffer: a work area of at least `WORK` bytes, which
+//! stays the channel's from call to call, the input, and an output of at least
+//! `OUTPUT` bytes. What each number means is the table in docs/RULES.md, which
+//! include/hgrpc.h has too.
+
+// A program that takes this file in as a module may use a part of it.
+#![allow(dead_code)]
+
+/// The bytes of a state, exactly.
+pub const STATE: usize = 179;
+/// The bytes of a work area, at least.
+pub const WORK: usize = 20_488;
+/// The bytes of an output, at least: those of the longest record.
+pub const OUTPUT: usize = 4_103;
+/// The bytes of a record before its command or payload.
+pub const RECORD_HEAD: usize = 7;
+/// The bytes of a command, at most.
+pub const COMMAND_LONGEST: usize = 2_048;
+/// The bytes of a frame's payload, at most.
+pub const PAYLOAD_LONGEST: usize = 4_096;
+
+/// The calls of the archive. A slice is a pointer, which is not null also where
+/// the length is 0, and a length; the slices of one call lie apart.
+pub mod raw {
+    extern "C" {
+        pub fn hgrpc_fresh(state: *mut u8, state_length: usize) -> u32;
+        pub fn hgrpc_feed(
+            state: *mut u8,
+            state_length: usize,
+            work: *mut u8,
+            work_length: usize,
+            input: *const u8,
+            input_length: usize,
+            out: *mut u8,
+            out_length: usize,
+            taken: *mut usize,
+            written: *mut usize,
+        ) -> u32;
+        pub fn hgrpc_finish(state: *mut u8, state_length: usize, id: u16) -> u32;
+        pub fn hgrpc_check(command: *const u8, length: usize) -> u32;
+        pub fn hgrpc_name(
+            command: *const u8,
+            length: usize,
+            at: *mut usize,
+            size: *mut usize,
+        ) -> u32;
+        pub fn hgrpc_argument(
+            command: *const u8,
+            length: usize,
+            key: *const u8,
+            key_length: usize,
+            at: *mut usize,
+            size: *mut usize,
+        ) -> u32;
+        pub fn hgrpc_integer(
+            command: *const u8,
+            length: usize,
+            key: *const u8,
+            key_length: usize,
+            value: *mut i64,
+        ) -> u32;
+    }
+}
+
+/// What a feed answers: its number, and how many bytes it took of the input
+/// and wrote to the output.
+#[derive(Clone, Copy, Debug, PartialEq, Eq)]
+pub struct Fed {
+    pub number: u32,
+    pub taken: usize,
+    pub written: usize,
+}
+
+/// A channel's state. Its bytes are the archive's own affair.
+#[derive(Clone, Debug, PartialEq, Eq)]
+pub struct State {
+    bytes: [u8; STATE],
+}
+
+impl State {
+    /// Live, nothing pending, all slots free, all streams closed.
+    pub fn fresh() -> State {
+        let mut bytes = [0; STATE];
+        let number = fresh_bytes(&mut bytes);
+        assert_eq!(number, 0, "a state has {STATE} bytes");
+        State { bytes }
+    }
+
+    /// As `feed_bytes`.
+    pub fn feed(&mut self, work: &mut [u8], input: &[u8], out: &mut [u8]) -> Fed {
+        feed_bytes(&mut self.bytes, work, input, out)
+    }
+
+    /// As `finish_bytes`.
+    pub fn finish(&mut self, id: u16) -> u32 {
+        finish_bytes(&mut self.bytes, id)
+    }
+
+    pub fn bytes(&self) -> &[u8] {
+        &self.bytes
+    }
+}
+
+/// 0: the bytes are a fresh state. 3: they are not `STATE` in number, and
+/// nothing changed.
+pub fn fresh_bytes(state: &mut [u8]) -> u32 {
+    // The pointer comes with its own length.
+    unsafe { raw::hgrpc_fresh(state.as_mut_ptr(), state.len()) }
+}
+
+/// Takes bytes of the input and writes the records of the frames they complete.
+/// 2, 3, the dead number or 1, tried in this order: nothing changed. 0: the
+/// input is read to its end. 5: the next byte ends a frame and less than
+/// `OUTPUT` bytes are left; offer the rest again, with a fresh output. 11 to 29:
+/// a frame is refused, and the channel is dead. Output past the written count
+/// stays as it was.
+pub fn feed_bytes(state: &mut [u8], work: &mut [u8], input: &[u8], out: &mut [u8]) -> Fed {
+    let (mut taken, mut written) = (0, 0);
+    // Each pointer comes with its own length, and slices lent like this lie
+    // apart wherever one of them is written.
+    let number = unsafe {
+        raw::hgrpc_feed(
+            state.as_mut_ptr(),
+            state.len(),
+            work.as_mut_ptr(),
+            work.len(),
+            input.as_ptr(),
+            input.len(),
+            out.as_mut_ptr(),
+            out.len(),
+            &mut taken,
+            &mut written,
+        )
+    };
+    Fed {
+        number,
+        taken,
+        written,
+    }
+}
+
+/// 0: the request ran, and its slot is free. 3, the dead number or 4, tried in
+/// this order: nothing changed.
+pub fn finish_bytes(state: &mut [u8], id: u16) -> u32 {
+    // The pointer comes with its own length.
+    unsafe { raw::hgrpc_finish(state.as_mut_ptr(), state.len(), id) }
+}
+
+/// Whether bytes are a command: 0, 24, 25 or 26.
+pub fn check(command: &[u8]) -> u32 {
+    // The pointer comes with its own length.
+    unsafe { raw::hgrpc_check(command.as_ptr(), command.len()) }
+}
+
+/// The content of a command's name, a part of its bytes; or the check's number.
+pub fn name(command: &[u8]) -> Result<&[u8], u32> {
+    let (mut at, mut size) = (0, 0);
+    // The pointer comes with its own length.
+    let number = unsafe { raw::hgrpc_name(command.as_ptr(), command.len(), &mut at, &mut size) };
+    part(command, number, at, size)
+}
+
+/// The value of an argument, a whole CBOR item and a part of the command's
+/// bytes; or the check's number, then 6.
+pub fn argument<'c>(command: &'c [u8], key: &[u8]) -> Result<&'c [u8], u32> {
+    let (mut at, mut size) = (0, 0);
+    // Each pointer comes with its own length.
+    let number = unsafe {
+        raw::hgrpc_argument(
+            command.as_ptr(),
+            command.len(),
+            key.as_ptr(),
+            key.len(),
+            &mut at,
+            &mut size,
+        )
+    };
+    part(command, number, at, size)
+}
+
+/// The value of an argument as an integer; or the check's number, then 6, 7
+/// or 8.
+pub fn integer(command: &[u8], key: &[u8]) -> Result<i64, u32> {
+    let mut value = 0;
+    // Each pointer comes with its own length.
+    let number = unsafe {
+        raw::hgrpc_integer(
+            command.as_ptr(),
+            command.len(),
+            key.as_ptr(),
+            key.len(),
+            &mut value,
+        )
+    };
+    match number {
+        0 => Ok(value),
+        _ => Err(number),
+    }
+}
+
+fn part(command: &[u8], number: u32, at: usize, size: usize) -> Result<&[u8], u32> {
+    match number {
+        0 => Ok(&command[at..][..size]),
+        _ => Err(number),
+    }
+}
+
+/// What a record tells.
+#[derive(Clone, Copy, Debug, PartialEq, Eq)]
+pub enum Kind {
+    /// A command is whole; the bit says whether data follows.
+    Command,
+    /// Data of a request; the bit says whether it is the last.
+    Data,
+}
+
+#[derive(Clone, Copy, Debug, PartialEq, Eq)]
+pub struct Record<'o> {
+    pub kind: Kind,
+    pub request: u16,
+    pub bit: bool,
+    /// The whole command, or the payload of the data frame.
+    pub bytes: &'o [u8],
+}
+
+impl Record<'_> {
+    /// Whether the request runs now, so that finish answers 0: a command that
+    /// no data follows, or the last data.
+    pub fn runs(&self) -> bool {
+        (self.kind == Kind::Command) != self.bit
+    }
+}
+
+/// The records in the first `written` bytes of an output, which stand here
+/// alone. It ends where no whole record is left.
+#[derive(Clone, Debug)]
+pub struct Records<'o> {
+    rest: &'o [u8],
+}
+
+pub fn records(written: &[u8]) -> Records<'_> {
+    Records { rest: written }
+}
+
+impl<'o> Iterator for Records<'o> {
+    type Item = Record<'o>;
+
+    fn next(&mut self) -> Option<Record<'o>> {
+        let two = |at: usize| {
+            Some(u16::from_le_bytes([
+                *self.rest.get(at)?,
+                *self.rest.get(at + 1)?,
+            ]))
+        };
+        let end = 4 + usize::from(two(0)?);
+        let record = Record {
+            kind: match two(2)? {
+                1 => Kind::Command,
+                2 => Kind::Data,
+                _ => return None,
+            },
+            request: two(4)?,
+            bit: *self.rest.get(6)? == 1,
+            bytes: self.rest.get(RECORD_HEAD..end)?,
+        };
+        self.rest = &self.rest[end..];
+        Some(record)
+    }
+}

@@ -1,0 +1,208 @@
+/* The receiving side of one hgrpc channel, for C99 and C++: bytes of the line
+ * go in, records come out. The calls are those of the archive libhgrpc.a,
+ * which is for x86-64 Linux, as the kit's compiler is.
+ *
+ * The caller lends every buffer. A buffer is a pointer, which is not NULL also
+ * where the length is 0, and a length; the buffers of one call lie apart from
+ * each other and from the places for the counts. No call keeps a pointer, and
+ * none uses a heap.
+ *
+ * Every call answers a number. The words are those of docs/RULES.md, which has
+ * the exact rules; where they say `above`, it is there:
+ *
+ *    0  done
+ *    1  output shorter than 4,103
+ *    2  work area shorter than 20,488
+ *    3  state out of shape: pending above 4,103; a slot length above 2,048; a
+ *       used id even or double; a free slot or one not collecting that breaks
+ *       the rule above; dead number neither 0 nor 11 to 29; or, 8 or more
+ *       pending, a held length above 4,096 or pending not below 8 plus it.
+ *       Also: bytes that are no state at all
+ *    4  finish: id not running
+ *    5  stopped for output, as above
+ *    6  lookup: key absent
+ *    7  integer wanted, another type found
+ *    8  integer outside -2^63 to 2^63-1
+ *   11  payload length above 4,096
+ *   12  request id even
+ *   13  stream id even
+ *   14  stream flag 0x08 or higher
+ *   15  type not 1, 2 or 9
+ *   16  closed stream, no beginning flag
+ *   17  open stream, beginning flag
+ *   18  type's flags broken
+ *   19  new: id active
+ *   20  new: no free slot
+ *   21  continuation: id not collecting
+ *   22  0x08 differs from the first frame
+ *   23  command longer than 2,048 in all
+ *   24  whole command isn't one CBOR item of the subset
+ *   25  it isn't a command map
+ *   26  a key twice in the outer map or in `args`
+ *   27  data: id not waiting
+ *   28  settings without beginning
+ *   29  settings not identity
+ *
+ * 11 to 29 refuse a frame: the channel is then dead, and the number is its dead
+ * number, which every later feed and finish on it answers. */
+
+#ifndef HGRPC_H
+#define HGRPC_H
+
+#include <stddef.h>
+#include <stdint.h>
+
+#ifdef __cplusplus
+extern "C" {
+#endif
+
+#define HGRPC_STATE 179            /* bytes of a state, exactly */
+#define HGRPC_WORK 20488           /* bytes of a work area, at least */
+#define HGRPC_OUTPUT 4103          /* bytes of an output, at least: the longest record */
+#define HGRPC_RECORD_HEAD 7        /* bytes of a record before its command or payload */
+#define HGRPC_COMMAND_LONGEST 2048 /* bytes of a command, at most */
+#define HGRPC_PAYLOAD_LONGEST 4096 /* bytes of a frame's payload, at most */
+#define HGRPC_REQUESTS 8           /* requests at a time, at most */
+
+/* The kinds of records. */
+#define HGRPC_KIND_COMMAND 1 /* a command is whole; its bit says whether data follows */
+#define HGRPC_KIND_DATA 2    /* data of a request; its bit says whether it is the last */
+
+/* ---- the calls on bytes ---- */
+
+/* 0: the bytes are a fresh state: live, nothing pending, all slots free, all
+ * streams closed. 3: the length is not HGRPC_STATE, and nothing changed. */
+uint32_t hgrpc_fresh(uint8_t *state, size_t state_length);
+
+/* Takes bytes of the input and writes the records of the frames they complete.
+ * 2, 3, the dead number or 1, tried in this order: nothing changed, both counts
+ * are 0. 0: the input is read to its end. 5: the next byte ends a frame and
+ * less than HGRPC_OUTPUT bytes of output are left; offer the input from `taken`
+ * on again, with a fresh output. 11 to 29: a frame is refused, and its judging
+ * byte is the last one taken.
+ * With 0, 5 and 11 to 29 the first `written` bytes of the output are records
+ * and the rest is as it was; the frame under way and the commands being
+ * collected are in the work area, so the next call needs it as it was left. */
+uint32_t hgrpc_feed(uint8_t *state, size_t state_length,
+                    uint8_t *work, size_t work_length,
+                    const uint8_t *input, size_t input_length,
+                    uint8_t *out, size_t out_length,
+                    size_t *taken, size_t *written);
+
+/* The owner has done what request `id` asked. 0: its slot is free again.
+ * 3, the dead number or 4, tried in this order: nothing changed. */
+uint32_t hgrpc_finish(uint8_t *state, size_t state_length, uint16_t id);
+
+/* Whether bytes are a command: 0, 24, 25 or 26. A command needs `name`; `args`
+ * and `redirect` may be missing, and a missing `args` reads as an empty map. */
+uint32_t hgrpc_check(const uint8_t *command, size_t length);
+
+/* 0: the command's name is `size` bytes from place `at` of the command on.
+ * The check's 24, 25 or 26: `at` and `size` are 0. */
+uint32_t hgrpc_name(const uint8_t *command, size_t length, size_t *at, size_t *size);
+
+/* 0: the value of argument `key`, a whole CBOR item, is `size` bytes from place
+ * `at` of the command on. The check's number, then 6: `at` and `size` are 0. */
+uint32_t hgrpc_argument(const uint8_t *command, size_t length,
+                        const uint8_t *key, size_t key_length,
+                        size_t *at, size_t *size);
+
+/* 0: the value of argument `key` is the integer `value`. The check's number,
+ * then 6, 7 or 8: `value` is 0. */
+uint32_t hgrpc_integer(const uint8_t *command, size_t length,
+                       const uint8_t *key, size_t key_length, int64_t *value);
+
+/* ---- the same with the state as a struct ---- */
+
+/* A channel's state. Its bytes are the archive's own affair; a copy of the
+ * struct is a copy of the state. */
+typedef struct {
+    uint8_t bytes[HGRPC_STATE];
+} hgrpc_state;
+
+/* What a feed answers: its number, and how many bytes it took of the input and
+ * wrote to the output. */
+typedef struct {
+    uint32_t number;
+    size_t taken;
+    size_t written;
+} hgrpc_fed;
+
+/* Makes the state a fresh one. It has no refusal, since the length is right. */
+static inline void hgrpc_channel_fresh(hgrpc_state *state)
+{
+    (void)hgrpc_fresh(state->bytes, sizeof state->bytes);
+}
+
+/* The answers of hgrpc_feed, and what it leaves in each buffer. */
+static inline hgrpc_fed hgrpc_channel_feed(hgrpc_state *state,
+                                           uint8_t *work, size_t work_length,
+                                           const uint8_t *input, size_t input_length,
+                                           uint8_t *out, size_t out_length)
+{
+    hgrpc_fed fed;
+    fed.number = hgrpc_feed(state->bytes, sizeof state->bytes, work, work_length, input,
+                            input_length, out, out_length, &fed.taken, &fed.written);
+    return fed;
+}
+
+/* The answers of hgrpc_finish: 0 and the slot is free, or 3, the dead number or
+ * 4 and nothing changed. */
+static inline uint32_t hgrpc_channel_finish(hgrpc_state *state, uint16_t id)
+{
+    return hgrpc_finish(state->bytes, sizeof state->bytes, id);
+}
+
+/* ---- the records in an output ---- */
+
+/* A record. `bytes` point into the output: the whole command, or the payload of
+ * the data frame. The next feed into that output overwrites them. */
+typedef struct {
+    uint16_t kind;
+    uint16_t request;
+    uint8_t bit;
+    const uint8_t *bytes;
+    size_t length;
+} hgrpc_record;
+
+/* The 16-bit number in two bytes, the low one first. */
+static inline uint16_t hgrpc_two_bytes(const uint8_t *bytes)
+{
+    return (uint16_t)(bytes[0] | (unsigned)bytes[1] << 8);
+}
+
+/* 1: `record` is the record at `*place` of the output, and `*place` is behind
+ * it. 0: no whole record stands there, and nothing changed. It reads nothing
+ * past the first `written` bytes. Begin with `*place` 0. */
+static inline int hgrpc_next_record(const uint8_t *out, size_t written, size_t *place,
+                                    hgrpc_record *record)
+{
+    size_t body, left = *place < written ? written - *place : 0;
+    const uint8_t *head;
+    if (left < HGRPC_RECORD_HEAD)
+        return 0;
+    head = out + *place;
+    body = hgrpc_two_bytes(head);
+    if (body < HGRPC_RECORD_HEAD - 4 || left - 4 < body)
+        return 0;
+    record->kind = hgrpc_two_bytes(head + 2);
+    record->request = hgrpc_two_bytes(head + 4);
+    record->bit = head[6];
+    record->bytes = head + HGRPC_RECORD_HEAD;
+    record->length = body - (HGRPC_RECORD_HEAD - 4);
+    *place += 4 + body;
+    return 1;
+}
+
+/* Whether the record's request runs now, so that finish answers 0: a command
+ * that no data follows, or the last data. */
+static inline int hgrpc_record_runs(const hgrpc_record *record)
+{
+    return (record->kind == HGRPC_KIND_COMMAND) == (record->bit == 0);
+}
+
+#ifdef __cplusplus
+}
+#endif
+
+#endif

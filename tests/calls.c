@@ -1,0 +1,273 @@
+/* Every call of include/hgrpc.h with every kind of answer. It is C99 and C++11
+ * at once, and is run with and without the sanitizers. */
+
+#include <stdio.h>
+#include <stdlib.h>
+#include <string.h>
+
+#include "hgrpc.h"
+
+#define NAME "\x44" "name" "\x43" "set"
+#define COMMAND "\xa2" NAME "\x44" "args\xa0"
+#define T1 "\x10\0\0\1\0\1\1\x11" COMMAND
+#define RECORD "\x13\0\1\0\1\0\0" COMMAND
+#define BYTES(text) (const uint8_t *)(text), sizeof(text) - 1
+#define IS(got, wanted) is(__LINE__, (long long)(got), (long long)(wanted))
+
+static unsigned answers;
+
+/* A channel with the buffers that are lent to it. */
+typedef struct {
+    hgrpc_state state;
+    uint8_t work[HGRPC_WORK];
+    uint8_t out[3 * HGRPC_OUTPUT];
+} board;
+
+static board b;
+
+static void is(int line, long long got, long long wanted)
+{
+    answers++;
+    if (got != wanted) {
+        printf("calls: line %d: %lld, not %lld\n", line, got, wanted);
+        exit(1);
+    }
+}
+
+static hgrpc_fed feed(const uint8_t *input, size_t length)
+{
+    return hgrpc_channel_feed(&b.state, b.work, sizeof b.work, input, length, b.out, HGRPC_OUTPUT);
+}
+
+/* Feeds bytes that are all taken, and answers the number. */
+static uint32_t feed_all(const uint8_t *input, size_t length)
+{
+    hgrpc_fed fed = feed(input, length);
+    IS(fed.taken, length);
+    return fed.number;
+}
+
+/* Feeds one frame. `last` is the byte with its type and flags. */
+static uint32_t frame(unsigned id, unsigned stream, unsigned stream_flags, unsigned last,
+                      const uint8_t *payload, size_t length)
+{
+    static uint8_t bytes[8 + HGRPC_PAYLOAD_LONGEST];
+    const uint8_t header[8] = {
+        (uint8_t)(length & 255), (uint8_t)(length >> 8 & 255), (uint8_t)(length >> 16),
+        (uint8_t)(id & 255), (uint8_t)(id >> 8), (uint8_t)stream, (uint8_t)stream_flags,
+        (uint8_t)last};
+    memcpy(bytes, header, sizeof header);
+    if (length > HGRPC_PAYLOAD_LONGEST)
+        return feed_all(bytes, sizeof header);
+    memcpy(bytes + sizeof header, payload, length);
+    return feed_all(bytes, sizeof header + length);
+}
+
+/* T1, cut into pieces of this size, the last one as long as it is. */
+static void first_trace(size_t piece)
+{
+    const uint8_t *input = (const uint8_t *)T1;
+    size_t at, n, written = 0, length = sizeof T1 - 1;
+    hgrpc_channel_fresh(&b.state);
+    for (at = 0; at < length; at += n) {
+        hgrpc_fed fed;
+        n = length - at < piece ? length - at : piece;
+        fed = feed(input + at, n);
+        IS(fed.number, 0);
+        IS(fed.taken, n);
+        written += fed.written;
+    }
+    IS(written, sizeof RECORD - 1);
+    IS(memcmp(b.out, RECORD, sizeof RECORD - 1), 0);
+    IS(hgrpc_channel_finish(&b.state, 1), 0);
+    IS(hgrpc_channel_finish(&b.state, 1), 4);
+}
+
+/* Fresh, feed and finish where they refuse the call: nothing is changed. */
+static void refused_calls(void)
+{
+    static board before;
+    size_t taken = 9, written = 9;
+    hgrpc_channel_fresh(&b.state);
+    before = b;
+    IS(hgrpc_fresh(b.state.bytes, HGRPC_STATE - 1), 3);
+    IS(hgrpc_channel_feed(&b.state, b.work, HGRPC_WORK - 1, BYTES(T1), b.out, 9999).number, 2);
+    IS(hgrpc_channel_feed(&b.state, b.work, HGRPC_WORK, BYTES(T1), b.out, 4102).number, 1);
+    IS(hgrpc_feed(b.state.bytes, HGRPC_STATE - 1, b.work, sizeof b.work, BYTES(T1), b.out,
+                  sizeof b.out, &taken, &written), 3);
+    IS(taken, 0);
+    IS(written, 0);
+    IS(hgrpc_finish(b.state.bytes, HGRPC_STATE - 1, 1), 3);
+    IS(memcmp(&b, &before, sizeof b), 0);
+    memset(&b.state, 0xff, sizeof b.state);
+    before = b;
+    IS(feed(BYTES(T1)).number, 3);
+    IS(hgrpc_channel_finish(&b.state, 1), 3);
+    IS(memcmp(&b, &before, sizeof b), 0);
+}
+
+/* Two commands in one input, with output for one record: 5, and the rest is
+ * offered again. */
+static void stopped_for_output(void)
+{
+    static const char second[] = "\x10\0\0\3\0\1\0\x11" COMMAND;
+    uint8_t input[sizeof T1 - 1 + sizeof second - 1];
+    hgrpc_fed fed;
+    memcpy(input, T1, sizeof T1 - 1);
+    memcpy(input + sizeof T1 - 1, second, sizeof second - 1);
+    hgrpc_channel_fresh(&b.state);
+    fed = feed(input, sizeof input);
+    IS(fed.number, 5);
+    IS(fed.taken, sizeof input - 1);
+    IS(fed.written, sizeof RECORD - 1);
+    fed = feed(input + fed.taken, sizeof input - fed.taken);
+    IS(fed.number, 0);
+    IS(fed.written, sizeof RECORD - 1);
+    IS(b.out[4], 3);
+    IS(feed(input, 0).number, 0);
+}
+
+/* Request 1 waits for data, request 3 is collecting, stream 1 is open. */
+static void busy(void)
+{
+    hgrpc_channel_fresh(&b.state);
+    IS(frame(1, 1, 1, 0x19, BYTES(COMMAND)), 0);
+    IS(frame(3, 1, 0, 0x15, BYTES("\xa2")), 0);
+    IS(hgrpc_channel_finish(&b.state, 3), 4);
+}
+
+/* A busy channel is dead by this number: each call answers it. */
+static void refused_with(uint32_t number, uint32_t answer)
+{
+    hgrpc_fed fed;
+    IS(answer, number);
+    fed = feed(BYTES(T1));
+    IS(fed.number, number);
+    IS(fed.taken, 0);
+    IS(hgrpc_channel_finish(&b.state, 1), number);
+    busy();
+}
+
+static void refused_headers(void)
+{
+    static const uint8_t none[1] = {0};
+    busy();
+    refused_with(11, frame(5, 1, 0, 0x11, none, 4097));
+    refused_with(12, frame(2, 1, 0, 0x11, none, 0));
+    refused_with(13, frame(5, 2, 0, 0x11, none, 0));
+    refused_with(14, frame(5, 1, 8, 0x11, none, 0));
+    refused_with(15, frame(5, 1, 0, 0x31, none, 0));
+    refused_with(16, frame(5, 3, 0, 0x11, none, 0));
+    refused_with(17, frame(5, 1, 1, 0x11, none, 0));
+    refused_with(18, frame(5, 1, 0, 0x13, none, 0));
+    refused_with(19, frame(1, 1, 0, 0x11, none, 0));
+    refused_with(21, frame(5, 1, 0, 0x12, none, 0));
+    refused_with(22, frame(3, 1, 0, 0x1a, none, 0));
+    refused_with(27, frame(5, 1, 0, 0x22, none, 0));
+}
+
+static void refused_payloads(void)
+{
+    static const uint8_t longer[HGRPC_COMMAND_LONGEST + 1] = {0};
+    unsigned id;
+    refused_with(23, frame(5, 1, 0, 0x11, longer, sizeof longer));
+    refused_with(24, frame(3, 1, 0, 0x12, BYTES("\xff")));
+    refused_with(25, frame(5, 1, 0, 0x11, BYTES("\xa0")));
+    refused_with(26, frame(5, 1, 0, 0x11, BYTES("\xa2" NAME NAME)));
+    refused_with(28, frame(5, 1, 0, 0x92, BYTES("\x48" "identity")));
+    refused_with(29, frame(5, 3, 1, 0x92, BYTES("\x44" "gzip")));
+    for (id = 5; id <= 15; id += 2)
+        IS(frame(id, 1, 0, 0x11, BYTES(COMMAND)), 0);
+    refused_with(20, frame(17, 1, 0, 0x11, BYTES(COMMAND)));
+}
+
+/* Settings, data in two frames, and a finish: what is accepted. */
+static void accepted(void)
+{
+    static hgrpc_record record;
+    size_t place = 0;
+    busy();
+    IS(frame(5, 3, 3, 0x92, BYTES("\x48" "identity")), 0);
+    IS(frame(1, 1, 0, 0x21, BYTES("slow")), 0);
+    IS(hgrpc_channel_finish(&b.state, 1), 4);
+    IS(frame(1, 1, 0, 0x22, BYTES("er")), 0);
+    IS(hgrpc_next_record(b.out, 9, &place, &record), 1);
+    IS(record.kind, HGRPC_KIND_DATA);
+    IS(record.request, 1);
+    IS(record.bit, 1);
+    IS(record.length, 2);
+    IS(memcmp(record.bytes, "er", 2), 0);
+    IS(hgrpc_record_runs(&record), 1);
+    IS(hgrpc_channel_finish(&b.state, 1), 0);
+    IS(frame(3, 1, 2, 0x12, BYTES(NAME "\x44" "args\xa0")), 0);
+    IS(hgrpc_channel_finish(&b.state, 3), 0);
+}
+
+/* Two records, in a buffer that ends where the count says, for every count. */
+static void cut_records(void)
+{
+    size_t one = sizeof RECORD - 1, count;
+    for (count = 0; count <= 2 * one; count++) {
+        uint8_t *out = (uint8_t *)malloc(count + 1);
+        uint8_t *exact = (uint8_t *)realloc(out, count ? count : 1);
+        hgrpc_record record;
+        size_t place = 0, i, found = 0;
+        for (i = 0; i < count; i++)
+            exact[i] = (uint8_t)RECORD[i % one];
+        while (hgrpc_next_record(exact, count, &place, &record)) {
+            found++;
+            IS(place, found * one);
+            IS(record.length, sizeof COMMAND - 1);
+            IS(hgrpc_record_runs(&record), 1);
+        }
+        IS(found, count / one);
+        place = count + 1;
+        IS(hgrpc_next_record(exact, count, &place, &record), 0);
+        free(exact);
+    }
+}
+
+static void lookups(void)
+{
+    static const char command[] = "\xa2" NAME "\x44" "args\xa3" "\x41" "a" "\x20" "\x41" "b"
+        "\x41" "x" "\x41" "c" "\x3b\x80\0\0\0\0\0\0\0";
+    size_t at, size;
+    int64_t value = 9;
+    IS(hgrpc_check(BYTES(command)), 0);
+    IS(hgrpc_check(BYTES("")), 24);
+    IS(hgrpc_check(BYTES("\xa0")), 25);
+    IS(hgrpc_check(BYTES("\xa2" NAME NAME)), 26);
+    IS(hgrpc_name(BYTES(command), &at, &size), 0);
+    IS(memcmp(command + at, "set", 3), 0);
+    IS(size, 3);
+    IS(hgrpc_name(BYTES("\xa0"), &at, &size), 25);
+    IS(at + size, 0);
+    IS(hgrpc_argument(BYTES(command), BYTES("b"), &at, &size), 0);
+    IS(memcmp(command + at, "\x41x", 2), 0);
+    IS(size, 2);
+    IS(hgrpc_argument(BYTES(command), BYTES(""), &at, &size), 6);
+    IS(at + size, 0);
+    IS(hgrpc_integer(BYTES(command), BYTES("a"), &value), 0);
+    IS(value, -1);
+    IS(hgrpc_integer(BYTES(command), BYTES("d"), &value), 6);
+    IS(hgrpc_integer(BYTES(command), BYTES("b"), &value), 7);
+    IS(hgrpc_integer(BYTES(command), BYTES("c"), &value), 8);
+    IS(hgrpc_integer(BYTES(""), BYTES("a"), &value), 24);
+    IS(value, 0);
+}
+
+int main(void)
+{
+    first_trace(3);
+    first_trace(9);
+    first_trace(24);
+    refused_calls();
+    stopped_for_output();
+    refused_headers();
+    refused_payloads();
+    accepted();
+    cut_records();
+    lookups();
+    printf("calls: %u answers, each as the rules have it\n", answers);
+    return 0;
+}

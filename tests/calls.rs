@@ -1,0 +1,129 @@
+//! The calls of bindings/hgrpc.rs as a program makes them, with the answers of
+//! the papers. The file is taken in as a module.
+
+#[path = "../bindings/hgrpc.rs"]
+mod hgrpc;
+
+use hgrpc::{records, Fed, Kind, Record, State, OUTPUT, STATE, WORK};
+
+const COMMAND: &[u8] = b"\xa2\x44name\x43set\x44args\xa0";
+const WITH_ARGUMENTS: &[u8] =
+    b"\xa2\x44name\x43set\x44args\xa3\x41a\x20\x41b\x41x\x41c\x3b\x80\0\0\0\0\0\0\0";
+
+fn frame(id: u8, stream_flags: u8, last: u8, payload: &[u8]) -> Vec<u8> {
+    let header = [payload.len() as u8, 0, 0, id, 0, 1, stream_flags, last];
+    [&header[..], payload].concat()
+}
+
+fn fed(number: u32, taken: usize, written: usize) -> Fed {
+    Fed {
+        number,
+        taken,
+        written,
+    }
+}
+
+/// T1 in pieces of a size.
+fn first_trace(piece: usize) {
+    let mut work = vec![0; WORK];
+    let mut out = vec![0; OUTPUT];
+    let mut state = State::fresh();
+    let mut written = 0;
+    for piece in frame(1, 1, 0x11, COMMAND).chunks(piece) {
+        let answer = state.feed(&mut work, piece, &mut out);
+        assert_eq!((answer.number, answer.taken), (0, piece.len()));
+        written += answer.written;
+    }
+    let record = Record {
+        kind: Kind::Command,
+        request: 1,
+        bit: false,
+        bytes: COMMAND,
+    };
+    assert!(record.runs());
+    assert!(records(&out[..written]).eq([record]));
+    assert_eq!((state.finish(1), state.finish(1)), (0, 4));
+}
+
+/// Two commands with output for one record, then data, then a refusal.
+fn stop_and_refusal() {
+    let mut work = vec![0; WORK];
+    let mut out = vec![0; OUTPUT];
+    let mut state = State::fresh();
+    let input = [frame(1, 1, 0x11, COMMAND), frame(3, 0, 0x19, COMMAND)].concat();
+    let stop = state.feed(&mut work, &input, &mut out);
+    assert_eq!(stop, fed(5, input.len() - 1, 23));
+    let rest = state.feed(&mut work, &input[stop.taken..], &mut out);
+    assert_eq!(rest, fed(0, 1, 23));
+    let record = records(&out[..23]).next().expect("a record");
+    assert_eq!(
+        (record.request, record.bit, record.runs()),
+        (3, true, false)
+    );
+    let data = frame(3, 0, 0x22, b"hi");
+    assert_eq!(state.feed(&mut work, &data, &mut out), fed(0, 10, 9));
+    let record = records(&out[..9]).next().expect("a record");
+    assert_eq!((record.kind, record.bytes), (Kind::Data, &b"hi"[..]));
+    assert!(record.runs());
+    assert_eq!(state.feed(&mut work, &data, &mut out), fed(27, 10, 0));
+    let dead = state.clone();
+    assert_eq!(state.feed(&mut work, &data, &mut out), fed(27, 0, 0));
+    assert_eq!((state.finish(3), state == dead), (27, true));
+}
+
+fn refused_calls() {
+    let mut out = vec![0; OUTPUT];
+    let mut state = State::fresh();
+    assert_eq!(state.bytes().len(), STATE);
+    assert_eq!(state.feed(&mut [], b"", &mut []), fed(2, 0, 0));
+    let mut work = vec![0; WORK];
+    assert_eq!(state.feed(&mut work, b"", &mut []), fed(1, 0, 0));
+    let mut short = vec![0; STATE - 1];
+    assert_eq!(hgrpc::fresh_bytes(&mut short), 3);
+    assert_eq!(hgrpc::finish_bytes(&mut short, 1), 3);
+    let answer = hgrpc::feed_bytes(&mut short, &mut work, b"", &mut out);
+    assert_eq!(answer, fed(3, 0, 0));
+}
+
+/// Two records, cut at every place: only whole ones are read.
+fn cut_records() {
+    let one = [b"\x13\0\x01\0\x01\0\0", COMMAND].concat();
+    let two = [&one[..], &one].concat();
+    for count in 0..=two.len() {
+        assert_eq!(records(&two[..count]).count(), count / one.len());
+    }
+    assert_eq!(records(b"\x03\0\x07\0\x01\0\0").count(), 0);
+    assert_eq!(records(b"\x02\0\x01\0\x01\0\0").count(), 0);
+}
+
+fn lookups() {
+    assert_eq!(hgrpc::check(COMMAND), 0);
+    for (bytes, number) in [
+        (&b""[..], 24),
+        (b"\xa0", 25),
+        (b"\xa2\x44name\x41a\x44name\x41a", 26),
+    ] {
+        assert_eq!(hgrpc::check(bytes), number);
+        assert_eq!(hgrpc::name(bytes), Err(number));
+        assert_eq!(hgrpc::argument(bytes, b"a"), Err(number));
+        assert_eq!(hgrpc::integer(bytes, b"a"), Err(number));
+    }
+    assert_eq!(hgrpc::name(WITH_ARGUMENTS), Ok(&b"set"[..]));
+    assert_eq!(hgrpc::argument(WITH_ARGUMENTS, b"b"), Ok(&b"\x41x"[..]));
+    assert_eq!(hgrpc::argument(WITH_ARGUMENTS, b""), Err(6));
+    assert_eq!(hgrpc::integer(WITH_ARGUMENTS, b"a"), Ok(-1));
+    for (key, number) in [(b"d", 6), (b"b", 7), (b"c", 8)] {
+        assert_eq!(hgrpc::integer(WITH_ARGUMENTS, key), Err(number));
+    }
+}
+
+fn main() {
+    for piece in [1, 3, 9, 24] {
+        first_trace(piece);
+    }
+    stop_and_refusal();
+    refused_calls();
+    cut_records();
+    lookups();
+    println!("calls (Rust): each answer as the rules have it");
+}

@@ -1,0 +1,85 @@
+# The archive hgrpc as its callers use it: buffers against pages that may not be
+# touched, any bytes as a state, the header from C and C++, and the board.
+
+archive=target/staticlib/libhgrpc.a
+strict=(-Wall -Wextra -Wpedantic -Werror)
+sanitizers=(-g -fsanitize=address,undefined -fno-sanitize-recover=all)
+
+# Guard pages, and that they would be noticed.
+archive_program tests/guard.rs "$out/guard" "$out"
+"$out/guard" run 5 2000 20000
+"$out/guard" over
+must_fail 'never came up' "$out/guard" run 5 20 20
+copy=${wrong_receivers[0]}
+build_lines "$copy"
+archive_program tests/guard.rs "$copy/guard" "$copy"
+must_fail '^guard: difference' "$copy/guard" run 5 2000 0
+
+# Any bytes as a state.
+archive_program tests/states.rs "$out/states" "$out"
+"$out/states" 6 3 60000
+for copy in "${wrong_states[@]}"; do
+    build_lines "$copy"
+    archive_program tests/states.rs "$copy/states" "$copy"
+    must_fail '^states: ' "$copy/states" 6 1 2000
+done
+
+# The header, from C and from C++.
+build_calls() {
+    local program=$1
+    shift
+    "$@" "${strict[@]}" -Iinclude -o "$out/$program" tests/calls.c -x none "$archive"
+    "$out/$program"
+}
+build_calls calls gcc -std=c99 -Wconversion -O2
+build_calls calls_cpp g++ -x c++ -std=c++11 -O2
+build_calls calls_sanitized gcc -std=c99 -Wconversion "${sanitizers[@]}"
+change 's/IS(fed.number, 5)/IS(fed.number, 0)/' tests/calls.c "$out/wrong/calls.c"
+gcc -std=c99 -Iinclude -o "$out/wrong/calls" "$out/wrong/calls.c" "$archive"
+must_fail '^calls: line' "$out/wrong/calls"
+
+# The bindings, taken in as a module.
+rust -o "$out/calls_rust" -L native=target/staticlib -l static=hgrpc tests/calls.rs
+"$out/calls_rust"
+mkdir "$out/wrong/bindings"
+change 's/(self\.kind == Kind::Command) != self\.bit/!self.bit/' bindings/hgrpc.rs "$out/wrong/bindings/hgrpc.rs"
+change 's|\.\./bindings/|bindings/|' tests/calls.rs "$out/wrong/calls.rs"
+rust -o "$out/wrong/calls_rust" -L native=target/staticlib -l static=hgrpc "$out/wrong/calls.rs"
+must_fail 'assertion failed: record.runs()' "$out/wrong/calls_rust"
+
+# A reader of records that goes a byte too far is noticed.
+mkdir "$out/wrong/reader"
+change 's/left - 4 < body/left - 3 < body/' include/hgrpc.h "$out/wrong/reader/hgrpc.h"
+gcc -std=c99 "${sanitizers[@]}" -I"$out/wrong/reader" -o "$out/wrong/reader/calls" tests/calls.c "$archive"
+must_fail '^calls: line' "$out/wrong/reader/calls"
+
+# Each number means in the header what it means in the rules.
+joined=$(sed 's/^ \*//' include/hgrpc.h | tr -s ' \n' ' ')
+meanings=0
+while IFS='|' read -r _ number words _; do
+    if [[ $joined != *"${number% }${words% }"* ]]; then
+        echo "the header does not say of$number:$words"
+        exit 1
+    fi
+    meanings=$((meanings + 1))
+done < <(grep -E '^\| [0-9]+ \| ' docs/RULES.md)
+[ "$meanings" -eq 27 ] || { echo "the rules have $meanings numbers"; exit 1; }
+
+# The board, built and run by the README's own lines, and with the sanitizers.
+section=$(sed -n "/^## A board's main loop in C$/,/^## Call/p" README.md)
+block() { awk -v wanted="$1" '/^```/ { n++; next } n == 2 * wanted - 1' <<<"$section"; }
+shown=$(block 2)
+printed=$(bash -euc "$(block 1)")
+[ -n "$shown" ] && [ "$printed" = "$shown" ] || {
+    printf 'the README shows something else than its lines print:\n%s\n' "$printed"
+    exit 1
+}
+gcc -std=c99 "${strict[@]}" -Wconversion "${sanitizers[@]}" -Iinclude -o "$out/board" \
+    examples/board.c "$archive"
+for board in target/board "$out/board"; do
+    "$out/programs" board "$board" samples/*.capture
+done
+"$out/programs" boards "$out/board" 1 300
+change 's/fed.number == 5/0/' examples/board.c "$out/wrong/board.c"
+gcc -std=c99 -Iinclude -o "$out/wrong/board" "$out/wrong/board.c" "$archive"
+must_fail 'and not$' "$out/programs" boards "$out/wrong/board" 1 300

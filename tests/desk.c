@@ -1,0 +1,73 @@
+/* Compares the calls of the command archive, as the desk tool makes them, with
+ * the second implementation.
+ *
+ *     desk COMMANDS SEED */
+
+#include <inttypes.h>
+#include <stdio.h>
+#include <stdlib.h>
+
+#include "command.h"
+#include "second.h"
+
+struct answers {
+    uint32_t check, argument, integer;
+    int64_t value;
+};
+
+static struct answers archive_answers(const uint8_t *command, size_t length,
+                                      const uint8_t *key, size_t key_length)
+{
+    struct answers answers;
+    answers.check = command_check(command, length);
+    answers.argument = command_argument_number(command, length, key, key_length);
+    answers.integer = command_integer_number(command, length, key, key_length);
+    answers.value = command_integer(command, length, key, key_length);
+    return answers;
+}
+
+static struct answers second_answers(const uint8_t *command, size_t length,
+                                     const uint8_t *key, size_t key_length)
+{
+    size_t at, size;
+    struct answers answers;
+    answers.check = second_check(command, length);
+    answers.argument = second_argument(command, length, key, key_length, &at, &size);
+    answers.integer = second_integer(command, length, key, key_length, &answers.value);
+    return answers;
+}
+
+/* Whether both answer alike. Marks the number of each lookup in `met`. */
+static int alike(uint64_t seed, uint64_t index, int met[32])
+{
+    size_t length, key_length;
+    struct generated *generated = generated_new(seed, index);
+    const uint8_t *command = generated_command(generated, &length);
+    const uint8_t *key = generated_key(generated, &key_length);
+    struct answers one = archive_answers(command, length, key, key_length);
+    struct answers other = second_answers(command, length, key, key_length);
+    generated_free(generated);
+    met[one.integer % 32] = 1;
+    return one.check == other.check && one.argument == other.argument
+        && one.integer == other.integer && one.value == other.value;
+}
+
+int main(int argc, char **argv)
+{
+    static const int numbers[] = {0, 6, 7, 8, 24, 25, 26};
+    uint64_t commands = argc > 1 ? strtoull(argv[1], NULL, 10) : 0;
+    uint64_t seed = argc > 2 ? strtoull(argv[2], NULL, 10) : 0;
+    int met[32] = {0};
+    for (uint64_t index = 0; index < commands; index++)
+        if (!alike(seed, index, met)) {
+            printf("desk (C): difference at seed %" PRIu64 ", index %" PRIu64 "\n", seed, index);
+            return 1;
+        }
+    for (size_t i = 0; i < sizeof numbers / sizeof *numbers; i++)
+        if (!met[numbers[i]]) {
+            printf("desk (C): %d never came up\n", numbers[i]);
+            return 1;
+        }
+    printf("desk (C): %" PRIu64 " commands, no difference\n", commands);
+    return 0;
+}

@@ -1,0 +1,73 @@
+//! Compares the calls of the command archive, as include/command.h has them,
+//! with the second implementation.
+//!
+//!     desk COMMANDS SEED
+
+use generate::Case;
+use second::command;
+use std::collections::BTreeSet;
+use std::process::exit;
+
+type Lookup<T> = unsafe extern "C" fn(*const u8, usize, *const u8, usize) -> T;
+
+extern "C" {
+    fn command_check(command: *const u8, length: usize) -> u32;
+    fn command_argument_number(c: *const u8, n: usize, key: *const u8, size: usize) -> u32;
+    fn command_integer_number(c: *const u8, n: usize, key: *const u8, size: usize) -> u32;
+    fn command_integer(c: *const u8, n: usize, key: *const u8, size: usize) -> i64;
+}
+
+fn check(command: &[u8]) -> u32 {
+    // The pointer comes with its own length.
+    unsafe { command_check(command.as_ptr(), command.len()) }
+}
+
+fn look_up<T>(call: Lookup<T>, Case { command, key }: &Case) -> T {
+    // Each pointer comes with its own length.
+    unsafe { call(command.as_ptr(), command.len(), key.as_ptr(), key.len()) }
+}
+
+fn archive_answers(case: &Case) -> (u32, u32, u32, i64) {
+    (
+        check(&case.command),
+        look_up(command_argument_number, case),
+        look_up(command_integer_number, case),
+        look_up(command_integer, case),
+    )
+}
+
+fn second_answers(Case { command, key }: &Case) -> (u32, u32, u32, i64) {
+    (
+        command::check(command),
+        command::argument_number(command, key),
+        command::integer_number(command, key),
+        command::integer(command, key),
+    )
+}
+
+fn fail(reason: &str) -> ! {
+    println!("desk (Rust): {reason}");
+    exit(1)
+}
+
+fn main() {
+    let argument = |place| std::env::args().nth(place)?.parse::<u64>().ok();
+    let (Some(commands), Some(seed)) = (argument(1), argument(2)) else {
+        fail("COMMANDS SEED");
+    };
+    let mut met = BTreeSet::new();
+    for index in 0..commands {
+        let case = generate::case(seed, index);
+        let (archive, second) = (archive_answers(&case), second_answers(&case));
+        if archive != second {
+            fail(&format!(
+                "difference at seed {seed}, index {index}: {archive:?}, not {second:?}"
+            ));
+        }
+        met.insert(archive.2);
+    }
+    if met != BTreeSet::from([0, 6, 7, 8, 24, 25, 26]) {
+        fail(&format!("only {met:?} came up"));
+    }
+    println!("desk (Rust): {commands} commands, no difference");
+}

@@ -1,0 +1,127 @@
+//! The archive's calls with every buffer against a page that may not be
+//! touched: right before it, and right behind it. A read or write outside the
+//! lent bytes ends the program by a signal.
+//!
+//!     guard run SEED SESSIONS COMMANDS   answers are held to the second implementation
+//!     guard over                         one byte more of each buffer than there is ends the program
+//!     guard lend BUFFER                  lends one byte more of BUFFER, for `over`
+
+#[path = "guard/met.rs"]
+mod met;
+#[path = "guard/over.rs"]
+mod over;
+
+use hgrpc::{feed_bytes, finish_bytes, fresh_bytes, OUTPUT, STATE, WORK};
+use met::Met;
+use replay_lines::{Driver, Edge, Room};
+use second::replay::{to_hex, Replay};
+use std::process::exit;
+
+const EDGES: [Edge; 2] = [Edge::Behind, Edge::Before];
+
+/// The archive, at both edges, and the second implementation.
+struct Sides {
+    drivers: [Driver; 2],
+    second: Replay,
+    met: Met,
+    answers: u64,
+}
+
+impl Sides {
+    fn line(&mut self, line: &str) {
+        let answer = self.second.answer(line.as_bytes());
+        for (driver, edge) in self.drivers.iter_mut().zip(EDGES) {
+            let guarded = driver.answer(line.as_bytes());
+            if guarded != answer {
+                let asked: String = line.chars().take(200).collect();
+                fail(&format!(
+                    "difference with the page {edge:?}\n{asked}\n{guarded:?}\nnot {answer:?}"
+                ));
+            }
+            if driver.work() != self.second.receiver().work() {
+                fail(&format!("another work area with the page {edge:?}"));
+            }
+        }
+        if let Some(answer) = answer {
+            self.answers += 1;
+            self.met.line(line, &answer);
+        }
+    }
+}
+
+fn run(seed: u64, sessions: u64, commands: u64) {
+    let mut sides = Sides {
+        drivers: EDGES.map(Driver::new),
+        second: Replay::default(),
+        met: Met::default(),
+        answers: 0,
+    };
+    for line in over::lines() {
+        sides.line(&line);
+    }
+    for index in 0..sessions {
+        for line in generate::session(seed, index) {
+            sides.line(&line);
+        }
+    }
+    for index in 0..commands {
+        let case = generate::case(seed, index);
+        let (command, key) = (to_hex(&case.command), to_hex(&case.key));
+        for line in [
+            format!("check {command}"),
+            format!("name {command}"),
+            format!("arg {command} {key}"),
+            format!("int {command} {key}"),
+        ] {
+            sides.line(&line);
+        }
+    }
+    EDGES.into_iter().for_each(other_states);
+    if let Some(missing) = sides.met.missing() {
+        fail(&format!("{missing} never came up"));
+    }
+    let answers = sides.answers;
+    println!("guard: {sessions} sessions, {commands} commands, {answers} answers at each edge, no byte outside touched");
+}
+
+/// States of other lengths than a state has: 3, or 2 if the work area is too
+/// short, and nothing is changed.
+fn other_states(edge: Edge) {
+    let [mut state, mut work, mut input, mut output] =
+        [2 * STATE, WORK, 8, OUTPUT].map(|most| Room::new(most, edge));
+    for length in [0, 1, 7, STATE - 1, STATE + 1, 2 * STATE] {
+        let bytes = vec![0; length];
+        for (size, number) in [(0, 2), (WORK - 1, 2), (WORK, 3)] {
+            let fed = feed_bytes(
+                state.put(&bytes),
+                work.lend(size),
+                input.put(&[0; 8]),
+                output.lend(OUTPUT),
+            );
+            assert_eq!((fed.number, fed.taken, fed.written), (number, 0, 0));
+            assert_eq!(state.lent(length), bytes);
+        }
+        assert_eq!(finish_bytes(state.put(&bytes), 1), 3);
+        assert_eq!(fresh_bytes(state.put(&bytes)), 3);
+        assert_eq!(state.lent(length), bytes);
+    }
+}
+
+fn fail(reason: &str) -> ! {
+    println!("guard: {reason}");
+    exit(1)
+}
+
+fn main() {
+    let arguments: Vec<String> = std::env::args().skip(1).collect();
+    let words: Vec<&str> = arguments.iter().map(String::as_str).collect();
+    let number = |word: &str| word.parse().expect("a number");
+    match words[..] {
+        ["run", seed, sessions, commands] => {
+            run(number(seed), number(sessions), number(commands));
+        }
+        ["over"] => over::each(),
+        ["lend", buffer] => over::lend(buffer),
+        _ => fail("run SEED SESSIONS COMMANDS, over or lend BUFFER"),
+    }
+}

@@ -1,0 +1,69 @@
+//! What must come up in a run: every answer of every call, and the lengths at
+//! which buffers are too short or just long enough.
+
+use std::collections::BTreeSet;
+
+#[derive(Default)]
+pub struct Met {
+    seen: BTreeSet<(String, usize)>,
+}
+
+/// The lengths of a word in hex that stand for bytes.
+fn spelled(word: &str) -> usize {
+    match word {
+        "-" => 0,
+        _ => word.len() / 2,
+    }
+}
+
+impl Met {
+    pub fn line(&mut self, line: &str, answer: &str) {
+        let asked: Vec<&str> = line.split(' ').collect();
+        let told: Vec<&str> = answer.split(' ').collect();
+        if let ["fed" | "finished" | "checked" | "named" | "argument" | "integer", number, ..] =
+            told[..]
+        {
+            self.see(told[0], number.parse().expect("a number"));
+        }
+        match (told[0], &asked[..]) {
+            ("fresh", [_, length, ..]) => self.see("work", length.parse().expect("a number")),
+            ("fed", [_, length, input]) => {
+                self.see("output", length.parse().expect("a number"));
+                self.see("input", spelled(input));
+            }
+            ("argument", [_, command, key]) => {
+                self.see("command", spelled(command));
+                self.see("key", spelled(key));
+            }
+            _ => {}
+        }
+    }
+
+    fn see(&mut self, what: &str, number: usize) {
+        self.seen.insert((what.to_string(), number));
+    }
+
+    /// Something that must come up and did not.
+    pub fn missing(&self) -> Option<String> {
+        let fed = [0, 1, 2, 3, 5].into_iter().chain(11..=29).collect();
+        let finished = [0, 3, 4].into_iter().chain(11..=29).collect();
+        let wanted: [(&str, Vec<usize>); 11] = [
+            ("fed", fed),
+            ("finished", finished),
+            ("checked", vec![0, 24, 25, 26]),
+            ("named", vec![0, 24, 25, 26]),
+            ("argument", vec![0, 24, 25, 26, 6]),
+            ("integer", vec![0, 24, 25, 26, 6, 7, 8]),
+            ("work", vec![0, 1, 7, 8, 4104, 20_487, 20_488, 20_489]),
+            ("output", vec![0, 1, 4102, 4103, 4104]),
+            ("input", vec![0, 1, 7, 8, 9]),
+            ("command", vec![0, 1]),
+            ("key", vec![0, 1]),
+        ];
+        let mut wanted = wanted
+            .into_iter()
+            .flat_map(|(what, numbers)| numbers.into_iter().map(move |n| (what.to_string(), n)));
+        let missing = wanted.find(|entry| !self.seen.contains(entry))?;
+        Some(format!("{} {}", missing.0, missing.1))
+    }
+}

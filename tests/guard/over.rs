@@ -1,0 +1,166 @@
+//! Calls that need the last byte of each buffer. Where that byte is not there,
+//! since the length lent is one too many, the page behind is touched.
+
+use hgrpc::{raw, OUTPUT, STATE, WORK};
+use replay_lines::{Edge, Room};
+use second::bytes;
+use second::replay::{state_text, to_hex};
+use second::state::{Phase, Slot, State};
+use std::os::unix::process::ExitStatusExt;
+use std::process::Command;
+
+/// The signal for a page that may not be touched.
+const TOUCHED: i32 = 11;
+
+const ID: u16 = 15;
+
+/// Seven requests run, so that the next one takes the last slot, whose part is
+/// at the end of the work area. Stream 1 is open.
+fn start() -> State {
+    let mut state = State::fresh();
+    for (slot, id) in state.slots.iter_mut().zip((1..ID).step_by(2)) {
+        *slot = Slot {
+            id,
+            phase: Phase::Running,
+            ..Slot::FREE
+        };
+    }
+    state.open.insert(1);
+    state
+}
+
+/// The longest command: its one argument, `k`, fills it up.
+fn longest_command() -> Vec<u8> {
+    let head = b"\xa2\x44name\x43set\x44args\xa1\x41k\x59";
+    let count = hgrpc::COMMAND_LONGEST - head.len() - 2;
+    let mut command = head.to_vec();
+    command.extend((count as u16).to_be_bytes());
+    command.resize(hgrpc::COMMAND_LONGEST, 7);
+    command
+}
+
+fn frame(last: u8, payload: &[u8]) -> Vec<u8> {
+    let length = payload.len() as u32;
+    let mut frame = length.to_le_bytes()[..3].to_vec();
+    frame.extend(ID.to_le_bytes());
+    frame.extend([1, 0, last]);
+    frame.extend(payload);
+    frame
+}
+
+/// The command, which fills the work area's last byte, and a longest data
+/// frame, whose record fills the output.
+fn frames() -> [Vec<u8>; 2] {
+    let data = [9; hgrpc::PAYLOAD_LONGEST];
+    [frame(0x19, &longest_command()), frame(0x21, &data)]
+}
+
+/// The same calls as lines.
+pub fn lines() -> Vec<String> {
+    let command = to_hex(&longest_command());
+    let mut lines = vec![
+        format!("fresh {WORK}"),
+        format!("set {}", state_text(&start())),
+    ];
+    lines.extend(frames().map(|frame| format!("feed {OUTPUT} {}", to_hex(&frame))));
+    lines.extend(["state", "tail", "worksum"].map(String::from));
+    lines.push(format!("arg {command} 6b"));
+    lines.push(format!("name {command}"));
+    lines
+}
+
+/// A buffer before a page: its first bytes are there, all but the last where it
+/// is the one that is lent with a byte too many.
+struct Lent {
+    room: Room,
+    there: usize,
+    length: usize,
+}
+
+impl Lent {
+    fn new(name: &str, bytes: &[u8], over: &str) -> Lent {
+        let length = bytes.len();
+        let there = length - usize::from(name == over);
+        let mut room = Room::new(length, Edge::Behind);
+        room.put(&bytes[..there]);
+        Lent {
+            room,
+            there,
+            length,
+        }
+    }
+
+    fn pointer(&mut self) -> *mut u8 {
+        self.room.lend(self.there).as_mut_ptr()
+    }
+}
+
+fn feeds(over: &str) {
+    let mut state = Lent::new("state", &bytes::write(&start()), over);
+    let mut work = Lent::new("work", &vec![0; WORK], over);
+    for frame in frames() {
+        let mut input = Lent::new("input", &frame, over);
+        let mut output = Lent::new("output", &vec![0; OUTPUT], over);
+        let (mut taken, mut written) = (0, 0);
+        // Each pointer comes with its own length, or, in one of the four, with
+        // one too many: the call then ends the program.
+        let number = unsafe {
+            raw::hgrpc_feed(
+                state.pointer(),
+                state.length,
+                work.pointer(),
+                work.length,
+                input.pointer(),
+                input.length,
+                output.pointer(),
+                output.length,
+                &mut taken,
+                &mut written,
+            )
+        };
+        assert_eq!((number, taken), (0, frame.len()));
+        assert_eq!(written, 7 + frame.len() - 8);
+    }
+    assert_eq!(state.length, STATE);
+}
+
+/// The command's last byte is the head of its argument.
+fn lookups(over: &str) {
+    let bytes = b"\xa2\x44name\x43set\x44args\xa1\x41k\x05";
+    let mut command = Lent::new("command", bytes, over);
+    let mut key = Lent::new("key", b"k", over);
+    let (mut at, mut size) = (0, 0);
+    // As above.
+    let number = unsafe {
+        raw::hgrpc_argument(
+            command.pointer(),
+            command.length,
+            key.pointer(),
+            key.length,
+            &mut at,
+            &mut size,
+        )
+    };
+    assert_eq!((number, at, size), (0, bytes.len() - 1, 1));
+}
+
+/// Makes the calls with a byte too many of one buffer.
+pub fn lend(over: &str) {
+    feeds(over);
+    lookups(over);
+}
+
+/// Makes them with each buffer in turn, in a program of its own, which a touched
+/// page must end; and with none, which must come to its end.
+pub fn each() {
+    for buffer in ["none", "state", "work", "input", "output", "command", "key"] {
+        let program = std::env::current_exe().expect("a program knows its place");
+        let ended = Command::new(program).args(["lend", buffer]).status();
+        let ended = ended.expect("the program starts");
+        let wanted = Some(TOUCHED).filter(|_| buffer != "none");
+        if ended.signal() != wanted || ended.success() != wanted.is_none() {
+            crate::fail(&format!("one byte too many of {buffer}: {ended}"));
+        }
+    }
+    println!("guard: one byte too many of any buffer ends the program");
+}

@@ -1,0 +1,220 @@
+//! Takes a line, makes the call that it asks for, and answers.
+
+use crate::room::{Edge, Room};
+use crate::state;
+use crate::words::{bytes, hex, number, parts};
+use hgrpc::{feed_bytes, finish_bytes, fresh_bytes, STATE, WORK};
+use second::bytes as state_bytes;
+
+/// A longer line is bad.
+pub const LINE: usize = 300_000;
+/// The most bytes of a work area or of an output.
+const LENT: usize = 100_000;
+/// What an output holds before the call.
+const UNWRITTEN: u8 = 0xa5;
+
+/// A channel that lines drive. Each buffer has room of its own.
+pub struct Driver {
+    state: Room,
+    work: Room,
+    input: Room,
+    output: Room,
+    command: Room,
+    key: Room,
+    /// The length of the work area.
+    size: usize,
+    /// Of the last feed: the length of its output, and how much it wrote.
+    asked: usize,
+    written: usize,
+}
+
+impl Driver {
+    /// A fresh channel, whose buffers all lie against such an edge.
+    pub fn new(edge: Edge) -> Driver {
+        let mut driver = Driver {
+            state: Room::new(STATE, edge),
+            work: Room::new(LENT, edge),
+            input: Room::new(LINE / 2, edge),
+            output: Room::new(LENT, edge),
+            command: Room::new(LINE / 2, edge),
+            key: Room::new(LINE / 2, edge),
+            size: 0,
+            asked: 0,
+            written: 0,
+        };
+        driver.begin(WORK, 0);
+        driver
+    }
+
+    /// The answer to a line, which stands here without its line end. None for
+    /// an empty line and for a comment.
+    pub fn answer(&mut self, line: &[u8]) -> Option<String> {
+        if line.is_empty() || line[0] == b'#' {
+            return None;
+        }
+        let short = Some(line).filter(|line| line.len() <= LINE);
+        let answer = short.and_then(|line| self.run(&parts(line, b' ')));
+        Some(answer.unwrap_or_else(|| "bad".to_string()))
+    }
+
+    pub fn state(&self) -> &[u8] {
+        self.state.lent(STATE)
+    }
+
+    pub fn work(&self) -> &[u8] {
+        self.work.lent(self.size)
+    }
+
+    /// None if the words cannot be read; nothing has changed then.
+    fn run(&mut self, words: &[&[u8]]) -> Option<String> {
+        match *words {
+            [b"fresh", size] => self.fresh(size, b"0"),
+            [b"fresh", size, first] => self.fresh(size, first),
+            [b"set", ref words @ ..] => self.set(words),
+            [b"poke", place, spelled] => self.poke(place, spelled),
+            [b"feed", length, spelled] => self.feed(length, spelled),
+            [b"finish", id] => self.finish(id),
+            [b"state"] => Some(self.state_words()),
+            [b"tail"] => Some(self.tail()),
+            [b"work", from, to] => self.work_part(from, to),
+            [b"worksum"] => Some(format!("worksum {}", adler(self.work()))),
+            [b"check", command] => self.check(command),
+            [b"name", command] => self.name(command),
+            [b"arg", command, key] => self.argument(command, key),
+            [b"int", command, key] => self.integer(command, key),
+            _ => None,
+        }
+    }
+
+    fn begin(&mut self, size: usize, first: usize) {
+        let number = fresh_bytes(self.state.lend(STATE));
+        assert_eq!(number, 0, "a state of {STATE} bytes is made fresh");
+        self.size = size;
+        for (place, byte) in self.work.lend(size).iter_mut().enumerate() {
+            *byte = (7 * place + first) as u8;
+        }
+    }
+
+    fn fresh(&mut self, size: &[u8], first: &[u8]) -> Option<String> {
+        let size = number(size, LENT as u64)? as usize;
+        let first = number(first, 255)? as usize;
+        self.begin(size, first);
+        Some("fresh".to_string())
+    }
+
+    fn set(&mut self, words: &[&[u8]]) -> Option<String> {
+        let state = state::read(words)?;
+        self.state.put(&state_bytes::write(&state));
+        Some("set".to_string())
+    }
+
+    fn state_words(&self) -> String {
+        let state = state_bytes::read(self.state());
+        let state = state.expect("a call leaves the bytes of a state");
+        format!("state {}", state::text(&state))
+    }
+
+    fn poke(&mut self, place: &[u8], spelled: &[u8]) -> Option<String> {
+        let place = number(place, LENT as u64)? as usize;
+        let poked = bytes(spelled)?;
+        let work = self.work.lend(self.size);
+        work.get_mut(place..place + poked.len())?
+            .copy_from_slice(&poked);
+        Some("poked".to_string())
+    }
+
+    fn feed(&mut self, length: &[u8], spelled: &[u8]) -> Option<String> {
+        let length = number(length, LENT as u64)? as usize;
+        let input = bytes(spelled)?;
+        let output = self.output.lend(length);
+        output.fill(UNWRITTEN);
+        let fed = feed_bytes(
+            self.state.lend(STATE),
+            self.work.lend(self.size),
+            self.input.put(&input),
+            output,
+        );
+        assert!(self.input.lent(input.len()) == input, "input is only read");
+        self.asked = length;
+        self.written = fed.written;
+        let records = hex(&self.output.lent(length)[..fed.written]);
+        let (number, taken, written) = (fed.number, fed.taken, fed.written);
+        Some(format!("fed {number} {taken} {written} {records}"))
+    }
+
+    fn finish(&mut self, id: &[u8]) -> Option<String> {
+        let id = number(id, 65_535)? as u16;
+        let number = finish_bytes(self.state.lend(STATE), id);
+        Some(format!("finished {number}"))
+    }
+
+    fn tail(&self) -> String {
+        let tail = &self.output.lent(self.asked)[self.written..];
+        let kept = tail.iter().all(|byte| *byte == UNWRITTEN);
+        format!("tail {}", if kept { "kept" } else { "changed" })
+    }
+
+    fn work_part(&self, from: &[u8], to: &[u8]) -> Option<String> {
+        let from = number(from, LENT as u64)? as usize;
+        let to = number(to, LENT as u64)? as usize;
+        Some(format!("work {}", hex(self.work().get(from..to)?)))
+    }
+
+    fn check(&mut self, command: &[u8]) -> Option<String> {
+        let command = self.command.put(&bytes(command)?);
+        Some(format!("checked {}", hgrpc::check(command)))
+    }
+
+    fn name(&mut self, command: &[u8]) -> Option<String> {
+        let command = self.command.put(&bytes(command)?);
+        Some(found("named", hgrpc::name(command)))
+    }
+
+    fn argument(&mut self, command: &[u8], key: &[u8]) -> Option<String> {
+        let (command, key) = (bytes(command)?, bytes(key)?);
+        let (command, key) = (self.command.put(&command), self.key.put(&key));
+        Some(found("argument", hgrpc::argument(command, key)))
+    }
+
+    fn integer(&mut self, command: &[u8], key: &[u8]) -> Option<String> {
+        let (command, key) = (bytes(command)?, bytes(key)?);
+        let (command, key) = (self.command.put(&command), self.key.put(&key));
+        Some(match hgrpc::integer(command, key) {
+            Ok(value) => format!("integer 0 {value}"),
+            Err(number) => format!("integer {number} 0"),
+        })
+    }
+}
+
+fn found(word: &str, part: Result<&[u8], u32>) -> String {
+    match part {
+        Ok(part) => format!("{word} 0 {}", hex(part)),
+        Err(number) => format!("{word} {number} -"),
+    }
+}
+
+/// Adler-32.
+fn adler(bytes: &[u8]) -> u32 {
+    let (mut low, mut high) = (1u32, 0u32);
+    // So many bytes keep both sums below 2^32.
+    for run in bytes.chunks(5_000) {
+        for byte in run {
+            low += u32::from(*byte);
+            high += low;
+        }
+        low %= 65_521;
+        high %= 65_521;
+    }
+    high << 16 | low
+}
+
+#[cfg(test)]
+mod tests {
+    use super::*;
+
+    #[test]
+    fn adler_of_a_word() {
+        assert_eq!(adler(b"Wikipedia"), 0x11e6_0398);
+        assert_eq!(adler(b""), 1);
+    }
+}

@@ -1,0 +1,147 @@
+//! A state as bytes, as the archive keeps it for its caller: the dead number,
+//! the pending count, the slots (id, phase, data bit, length), and a byte for
+//! each stream. Numbers have their low byte first.
+
+use crate::state::{Phase, Slot, State, SLOTS};
+
+/// The bytes of the pending count and of a slot's length.
+const PENDING: usize = 2;
+const LENGTH: usize = 2;
+
+const SLOT: usize = 2 + 1 + 1 + LENGTH;
+const STREAMS: usize = 128;
+pub const STATE: usize = 1 + PENDING + SLOTS * SLOT + STREAMS;
+
+/// The largest pending count and the largest slot length that the bytes hold.
+pub const MOST_PENDING: u64 = most(PENDING);
+pub const MOST_LENGTH: u64 = most(LENGTH);
+
+const fn most(bytes: usize) -> u64 {
+    u64::MAX >> (64 - 8 * bytes)
+}
+
+/// The bytes of a state whose numbers fit, in shape or not.
+pub fn write(state: &State) -> Vec<u8> {
+    let mut bytes = vec![state.dead];
+    put(&mut bytes, state.pending, PENDING);
+    for slot in &state.slots {
+        put(&mut bytes, slot.id.into(), 2);
+        bytes.push(slot.phase as u8);
+        bytes.push(slot.data.into());
+        put(&mut bytes, slot.length, LENGTH);
+    }
+    let open = |index: usize| state.open.contains(&(2 * index as u8 + 1));
+    bytes.extend((0..STREAMS).map(|index| u8::from(open(index))));
+    bytes
+}
+
+fn put(bytes: &mut Vec<u8>, number: u64, count: usize) {
+    assert!(number <= most(count), "{number} fits {count} bytes");
+    bytes.extend(&number.to_le_bytes()[..count]);
+}
+
+/// The state of these bytes, in shape or not. None if they are no state.
+pub fn read(bytes: &[u8]) -> Option<State> {
+    if bytes.len() != STATE {
+        return None;
+    }
+    let (plain, rest) = bytes.split_at(1 + PENDING);
+    let (slots, streams) = rest.split_at(SLOTS * SLOT);
+    let slots: Option<Vec<Slot>> = slots.chunks(SLOT).map(slot).collect();
+    let open: Option<Vec<bool>> = streams.iter().map(flag).collect();
+    let ids = (0..).zip(open?).filter(|(_, open)| *open);
+    Some(State {
+        dead: plain[0],
+        pending: little(&plain[1..]),
+        slots: slots?.try_into().ok()?,
+        open: ids.map(|(index, _)| 2 * index + 1).collect(),
+    })
+}
+
+fn slot(bytes: &[u8]) -> Option<Slot> {
+    Some(Slot {
+        id: little(&bytes[..2]) as u16,
+        phase: match bytes[2] {
+            0 => Phase::Free,
+            1 => Phase::Collecting,
+            2 => Phase::Waiting,
+            3 => Phase::Running,
+            _ => return None,
+        },
+        data: flag(&bytes[3])?,
+        length: little(&bytes[4..]),
+    })
+}
+
+fn flag(byte: &u8) -> Option<bool> {
+    match byte {
+        0 => Some(false),
+        1 => Some(true),
+        _ => None,
+    }
+}
+
+fn little(bytes: &[u8]) -> u64 {
+    let high_first = bytes.iter().rev();
+    high_first.fold(0, |number, byte| number << 8 | u64::from(*byte))
+}
+
+#[cfg(test)]
+mod tests {
+    use super::*;
+
+    fn odd() -> State {
+        let mut state = State::fresh();
+        state.dead = 200;
+        state.pending = 0x1234;
+        state.slots[0] = Slot {
+            id: 0x0203,
+            phase: Phase::Running,
+            data: true,
+            length: 0x0506,
+        };
+        state.slots[7].phase = Phase::Waiting;
+        state.open.extend([1, 255]);
+        state
+    }
+
+    #[test]
+    fn layout() {
+        let bytes = write(&odd());
+        assert_eq!(bytes.len(), 179);
+        assert_eq!(bytes[..9], [200, 0x34, 0x12, 3, 2, 3, 1, 6, 5]);
+        assert_eq!(bytes[9..45], [0; 36]);
+        assert_eq!(bytes[45..51], [0, 0, 2, 0, 0, 0]);
+        assert_eq!(bytes[51..179], [&[1][..], &[0; 126], &[1]].concat());
+        assert_eq!(write(&State::fresh()), [0; 179]);
+    }
+
+    #[test]
+    fn read_back() {
+        for state in [odd(), State::fresh()] {
+            assert_eq!(read(&write(&state)), Some(state));
+        }
+    }
+
+    #[test]
+    fn no_state() {
+        let good = write(&odd());
+        assert_eq!(read(&good[1..]), None);
+        assert_eq!(read(&[&good[..], &[0]].concat()), None);
+        assert_eq!(read(&[]), None);
+        for (place, byte, is_state) in [
+            (5, 3, true),
+            (5, 4, false),
+            (6, 2, false),
+            (47, 255, false),
+            (51, 2, false),
+            (178, 0, true),
+            (178, 2, false),
+            (0, 255, true),
+        ] {
+            let mut bytes = good.clone();
+            bytes[place] = byte;
+            assert_eq!(read(&bytes).is_some(), is_state, "{place} {byte}");
+        }
+    }
+}
