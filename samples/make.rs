@@ -62,7 +62,11 @@ fn negative(n: u64) -> Vec<u8> {
 }
 
 fn string(s: &str) -> Vec<u8> {
-    [head(2, s.len() as u64), s.as_bytes().to_vec()].concat()
+    bytes(s.as_bytes())
+}
+
+fn bytes(s: &[u8]) -> Vec<u8> {
+    [head(2, s.len() as u64), s.to_vec()].concat()
 }
 
 fn array(items: &[Vec<u8>]) -> Vec<u8> {
@@ -149,7 +153,7 @@ fn damaged() -> Vec<u8> {
 }
 
 // What crates/receive is tested on: trace T1, settings, a cut command with data and one of another request between its frames, an id
-// used again, and a value of each type.
+// used again, a value of each type, and byte strings that can be shown as text and that cannot.
 fn test() -> Vec<u8> {
     let all = command(
         "put",
@@ -161,6 +165,8 @@ fn test() -> Vec<u8> {
         ],
     );
     let few = command("set", &[("x", negative(0)), ("y", array(&[no(), null()]))]);
+    let edges: [&[u8]; 6] = [b" ~", b"it's", b"a\\b", b"a\x1f", b"a\x7f", b"\xc3\xbc"];
+    let shown = command("log", &[("text", array(&edges.map(bytes)))]);
     let hashes = map(&[(string("hashes"), array(&[string("sha1")]))]);
     let moved = map(&[
         (string("redirect"), hashes),
@@ -176,6 +182,8 @@ fn test() -> Vec<u8> {
         frame(3, 1, NONE, DATA_MORE, b""),
         frame(3, 1, END, DATA_LAST, b"hi"),
         frame(1, 1, BEGIN | END, NEW, &moved),
+        frame(7, 1, BEGIN, NEW_DATA, &shown),
+        frame(7, 1, END, DATA_LAST, b"a\nb"),
     ]
     .concat()
 }

@@ -25,7 +25,7 @@ wrong_receivers=()
 wrong_receiver empty_is_last 's/if frame\.flags() == LAST_DATA {/if frame.payload().is_empty() {/'
 wrong_receiver end_ignored 's/is_some_and(|frame| !frame\.ends())/is_some()/'
 
-# Wrong readers of commands, and one that writes captures wrongly.
+# Wrong readers of commands, and two that write captures wrongly.
 wrong_reader() {
     wrong_copy "$@"
     wrong_readers+=("$copy")
@@ -67,3 +67,6 @@ wrong_bytes bool_of_two 's/1 => Some(true)/1.. => Some(true)/'
 wrong_copy notation capture.rs 's/258(\[{}\])/[{}]/'
 rust_program tests/programs.rs "$copy/programs" "$copy"
 wrong_notation=$copy
+wrong_copy quotes capture.rs "s/'\\\\'' | //"
+rust_program tests/programs.rs "$copy/programs" "$copy"
+wrong_quotes=$copy

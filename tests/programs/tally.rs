@@ -10,8 +10,9 @@ pub struct Tally {
     counts: BTreeMap<String, u64>,
 }
 
-/// The kinds of lines: records by their bit, the end inside a frame, and
-/// each refusal by its number.
+/// The kinds of lines: records by their bit, those with a redirect, a set, a
+/// byte string as text or in hex, the end inside a frame, and each refusal by
+/// its number.
 fn kinds() -> impl Iterator<Item = String> {
     let records = [
         "command data 0",
@@ -19,7 +20,7 @@ fn kinds() -> impl Iterator<Item = String> {
         "data last 0",
         "data last 1",
     ];
-    let others = ["redirect", "258", "the input"];
+    let others = ["redirect", "258", "'", "h'", "the input"];
     let refusals = (11..=29).map(|number| format!("refused {number}"));
     records
         .into_iter()
@@ -40,7 +41,7 @@ impl Tally {
                 }
                 _ => self.count("the input"),
             }
-            for part in [" redirect {", "258(["] {
+            for part in [" redirect {", "258([", " '", " h'"] {
                 if line.contains(part) {
                     self.count(part.trim_matches(&[' ', '{', '(', '['][..]));
                 }

@@ -1,6 +1,8 @@
-// Items of the CBOR subset in the diagnostic notation of RFC 7049, section 6. One loop walks over the items, with a row of the containers
-// that are open; eight are as many as the check lets nest. Bytes that do not pass the check end the walk.
+// Items of the CBOR subset in the diagnostic notation of RFC 7049, section 6, with byte strings as text where RFC 8610, appendix G.2, lets
+// them be. One loop walks over the items, with a row of the containers that are open; eight are as many as the check lets nest. Bytes that
+// do not pass the check end the walk.
 use crate::line::Text;
+use crate::words;
 use cbor::Item;
 use cbor::Next;
 ghost use mathlib.Core.Path.{_≡_};
@@ -8,15 +10,13 @@ ghost use Prim.Native.Nat.{_+_, _≤_, _<_};
 ghost use lib.ListN.{length};
 ghost use Rattle.receive.specs.Nearer.{Nearer};
 
-// What comes next in an open container: an element of an array or of a set, a map's key, or the value of the key before it.
 enum Kind {
-    Element,
-    Member,
-    Key,
-    Value,
+    Array,
+    Set,
+    Map,
 }
 
-// An open container, and how many elements or pairs are left.
+// An open container, and how many items are left: in a map two for each pair, the key and its value.
 struct Open {
     kind: Kind,
     left: u64,
@@ -30,21 +30,43 @@ struct Walk {
     row: [Open; 8],
 }
 
-// A byte string.
+// A byte string: as text in quotes where each byte can stand there as it is, in hex otherwise.
 pub(crate) fn put_bytes(bytes: &[u8], out: &mut Text, at: usize) -> usize {
+    let end = put_content(bytes, out, at);
+    text::put(b"'", out, end)
+}
+
+// A byte string but for the quote at its end.
+fn put_content(bytes: &[u8], out: &mut Text, at: usize) -> usize {
+    if is_text(bytes) {
+        let a = text::put(b"'", out, at);
+        return text::put(bytes, out, a);
+    }
     let a = text::put(b"h'", out, at);
-    let b = text::put_hex(bytes, out, a);
-    text::put(b"'", out, b)
+    text::put_hex(bytes, out, a)
+}
+
+// Whether each byte can stand in quotes as it is. No bytes can.
+fn is_text(bytes: &[u8]) -> bool {
+    let mut i: usize = 0;
+    while i < bytes.len() {
+        if !is_plain(bytes[i]) {
+            return false;
+        }
+        i += 1;
+    }
+    true
+}
+
+// Whether a byte is printable ASCII, but no quote and no backslash, which would have to be escaped.
+fn is_plain(b: u8) -> bool {
+    (b' ' <= b) & (b <= b'~') & (b != b'\'') & (b != b'\\')
 }
 
 // A map of so many pairs, the first of which stands at a position.
 pub(crate) fn put_map(s: &[u8], count: u64, first: usize, out: &mut Text, at: usize) -> usize {
     let end = text::put(b"{", out, at);
-    let open = Open {
-        kind: Kind::Key,
-        left: count,
-    };
-    let row = [open; 8];
+    let row = [opening(Kind::Map, count); 8];
     let mut walk = Walk {
         at: first,
         end,
@@ -73,9 +95,9 @@ fn step(s: &[u8], walk: Walk, out: &mut Text) -> Walk
         return separate(passed(walk, next, end), out);
     }
     match x {
-        Item::Array(n, next) => opened(walk, Kind::Element, n, next, end),
-        Item::Set(n, next) => opened(walk, Kind::Member, n, next, end),
-        Item::Map(n, next) => opened(walk, Kind::Key, n, next, end),
+        Item::Array(n, next) => opened(walk, Kind::Array, n, next, end),
+        Item::Set(n, next) => opened(walk, Kind::Set, n, next, end),
+        Item::Map(n, next) => opened(walk, Kind::Map, n, next, end),
         _ => stopped(walk),
     }
 }
@@ -89,7 +111,7 @@ fn innermost(walk: Walk) -> Open
     row[i]
 }
 
-// The walk behind an item, with one element, key or value less left.
+// The walk behind an item, with one item less left.
 fn passed(walk: Walk, next: usize, end: usize) -> Walk
     requires { ⌜ (0 < walk .depth) × (walk .depth ≤ 8) ⌝ }
     ensures { λ r. ⌜ (r .at ≡ next) × (r .depth ≡ walk .depth) ⌝ }
@@ -97,7 +119,11 @@ fn passed(walk: Walk, next: usize, end: usize) -> Walk
     let i = walk.depth - 1;
     let mut row = walk.row;
     let top = row[i];
-    row[i] = lessened(top);
+    let kind = top.kind;
+    row[i] = Open {
+        kind,
+        left: one_less(top.left),
+    };
     Walk {
         at: next,
         end,
@@ -117,7 +143,7 @@ fn opened(walk: Walk, kind: Kind, count: u64, next: usize, end: usize) -> Walk
         return stopped(outer);
     }
     let mut row = outer.row;
-    row[depth] = Open { kind, left: count };
+    row[depth] = opening(kind, count);
     Walk {
         at: next,
         end,
@@ -161,27 +187,14 @@ fn stopped(walk: Walk) -> Walk
     next
 }
 
-// A container with one element, key or value less left. A pair counts until its value is passed.
-fn lessened(open: Open) -> Open {
-    let kind = open.kind;
-    let left = open.left;
+// A container of so many elements or pairs, before its first item. A map of bytes that pass the check has far fewer than 2^63 pairs.
+fn opening(kind: Kind, count: u64) -> Open {
     match kind {
-        Kind::Element => Open {
-            kind: Kind::Element,
-            left: one_less(left),
+        Kind::Map => Open {
+            kind,
+            left: std::num::wrapping_add_u64(count, count),
         },
-        Kind::Member => Open {
-            kind: Kind::Member,
-            left: one_less(left),
-        },
-        Kind::Key => Open {
-            kind: Kind::Value,
-            left,
-        },
-        Kind::Value => Open {
-            kind: Kind::Key,
-            left: one_less(left),
-        },
+        _ => Open { kind, left: count },
     }
 }
 
@@ -195,30 +208,43 @@ fn put_item(s: &[u8], at: usize, x: Item, out: &mut Text, end: usize) -> usize {
         Item::Unsigned(n, _) => text::put_decimal(n, out, end),
         Item::Negative(n, _) => text::put_negative(n, out, end),
         Item::Bytes(start, stop) => put_bytes(keys::part(s, start, stop), out, end),
-        Item::Simple(_) => put_simple(frame::byte_at(s, at), out, end),
-        Item::Array(_, _) => text::put(b"[", out, end),
-        Item::Map(_, _) => text::put(b"{", out, end),
-        Item::Set(_, _) => text::put(b"258([", out, end),
-        Item::Refused => end,
+        _ => put_mark(x, frame::byte_at(s, at), out, end),
     }
 }
 
-// A simple value, by its byte.
-fn put_simple(b: u8, out: &mut Text, at: usize) -> usize {
+// A simple value, or the start of a container; nothing for what is refused. The item's first byte is `b`.
+fn put_mark(x: Item, b: u8, out: &mut Text, at: usize) -> usize {
+    words::put_row(b"false\ntrue\nnull\n[\n{\n258([\n", mark_row(x, b), out, at)
+}
+
+fn mark_row(x: Item, b: u8) -> usize {
+    match x {
+        Item::Simple(_) => simple_row(b),
+        Item::Array(_, _) => 3,
+        Item::Map(_, _) => 4,
+        Item::Set(_, _) => 5,
+        _ => 6,
+    }
+}
+
+fn simple_row(b: u8) -> usize {
     match b {
-        0xf4 => text::put(b"false", out, at),
-        0xf5 => text::put(b"true", out, at),
-        _ => text::put(b"null", out, at),
+        0xf4 => 0,
+        0xf5 => 1,
+        _ => 2,
     }
 }
 
 // The end of a container.
 fn put_end(kind: Kind, out: &mut Text, at: usize) -> usize {
+    words::put_row(b"]\n])\n}\n", end_row(kind), out, at)
+}
+
+fn end_row(kind: Kind) -> usize {
     match kind {
-        Kind::Element => text::put(b"]", out, at),
-        Kind::Member => text::put(b"])", out, at),
-        Kind::Key => text::put(b"}", out, at),
-        Kind::Value => text::put(b"}", out, at),
+        Kind::Array => 0,
+        Kind::Set => 1,
+        Kind::Map => 2,
     }
 }
 
@@ -227,9 +253,14 @@ fn put_separator(open: Open, out: &mut Text, at: usize) -> usize {
     if open.left == 0 {
         return at;
     }
+    text::put(&[separator(open), b' '], out, at)
+}
+
+// A colon before a map's value: with it an odd number of items is left.
+fn separator(open: Open) -> u8 {
     let kind = open.kind;
     match kind {
-        Kind::Value => text::put(b": ", out, at),
-        _ => text::put(b", ", out, at),
+        Kind::Map => { if open.left % 2 == 1 { b':' } else { b',' } }
+        _ => b',',
     }
 }

@@ -1,6 +1,5 @@
-// The lines that the program writes. Each function puts its text into a buffer, and answers the position after it.
+// The lines of records. Each function puts its text into a buffer, and answers the position after it.
 use crate::diagnostic;
-use crate::words;
 use cbor::Item;
 use command_map::Checked;
 use entries::Entry;
@@ -13,39 +12,20 @@ pub(crate) type Text = [u8; 24576];
 pub(crate) fn put_record(record: &[u8], out: &mut Text) -> usize {
     let head = records::read_head(record);
     let content = records::content(record);
+    let mut end: usize = 0;
     if head.kind == 1 {
-        return put_command(head, content, out);
+        end = put_command(head, content, out);
+    } else {
+        end = put_data(head, content, out);
     }
-    put_data(head, content, out)
-}
-
-// What is refused, and the place of the byte that was judged.
-pub(crate) fn put_refusal(number: u8, place: u64, out: &mut Text) -> usize {
-    let a = put_counted(b"refused ", number as u64, out, 0);
-    let b = put_counted(b" at byte ", place, out, a);
-    let c = text::put(b": ", out, b);
-    let d = words::put_words(number, out, c);
-    text::put(b"\n", out, d)
-}
-
-// How many bytes there are of a frame that the input ends in.
-pub(crate) fn put_end(pending: usize, out: &mut Text) -> usize {
-    let a = put_counted(
-        b"the input ends inside a frame, after ",
-        pending as u64,
-        out,
-        0,
-    );
-    text::put(b" of its bytes\n", out, a)
+    text::put(b"\n", out, end)
 }
 
 // A command that is whole.
 fn put_command(head: Head, command: &[u8], out: &mut Text) -> usize {
-    let a = put_counted(b"command ", head.request as u64, out, 0);
-    let b = put_counted(b" data ", head.bit as u64, out, a);
-    let c = put_call(command, out, b);
-    let d = put_redirect(command, out, c);
-    text::put(b"\n", out, d)
+    let a = put_head(head, b"command ", b" data ", out);
+    let b = put_call(command, out, a);
+    put_redirect(command, out, b)
 }
 
 // The name and the arguments. The channel's commands pass the check: nothing is put of other bytes.
@@ -87,20 +67,16 @@ fn put_redirect(command: &[u8], out: &mut Text, at: usize) -> usize {
 
 // Data of a request.
 fn put_data(head: Head, data: &[u8], out: &mut Text) -> usize {
-    let a = put_counted(b"data ", head.request as u64, out, 0);
-    let b = put_counted(b" last ", head.bit as u64, out, a);
-    let c = put_counted(b" ", data.len() as u64, out, b);
-    let d = text::put(b" bytes ", out, c);
-    let e = put_plain(data, out, d);
-    text::put(b"\n", out, e)
+    let a = put_head(head, b"data ", b" last ", out);
+    let b = put_counted(b" ", data.len() as u64, out, a);
+    let c = text::put(b" bytes ", out, b);
+    diagnostic::put_bytes(data, out, c)
 }
 
-// Bytes in hex, a dash for none.
-fn put_plain(data: &[u8], out: &mut Text, at: usize) -> usize {
-    if data.len() == 0 {
-        return text::put(b"-", out, at);
-    }
-    text::put_hex(data, out, at)
+// A record's request and bit, each behind its words.
+fn put_head(head: Head, first: &[u8], second: &[u8], out: &mut Text) -> usize {
+    let a = put_counted(first, head.request as u64, out, 0);
+    put_counted(second, head.bit as u64, out, a)
 }
 
 // Words, and a number behind them.

@@ -1,184 +1,84 @@
-// Reads a capture of the line, the bytes that clients sent, and writes a line for each record that the channel makes of them. The input is
-// read in pieces: held are a piece of it, the channel's work area, one record and one line.
+// Reads captures of the line, the bytes that clients sent, and writes a line for each record that the channel makes of them. The arguments
+// name the files; with none it is standard input.
 mod diagnostic;
+mod input;
 mod line;
+mod say;
 mod words;
 
-use channel::Channel;
+use input::Input;
 use libc::STDIN_FILENO;
-use libc::STDOUT_FILENO;
-use line::Text;
-ghost use mathlib.Core.Path.{_≡_};
-ghost use mathlib.Core.Bool.{true, false};
-ghost use Prim.Native.Nat.{_≤_, _<_};
-ghost use lib.ListN.{length};
 
-// The channel's work area.
-type Work = [u8; frame::WORK_AREA];
-
-// An output for feed: the longest record.
-type Output = [u8; frame::LONGEST_RECORD];
-
-// The channel, how many bytes of the input it took, and whether reading goes on: the input lasts, nothing is refused, and the output is
-// taken.
-struct Run {
-    channel: Channel,
-    place: u64,
-    is_going: bool,
-}
-
-// How many bytes of a piece one call of feed took, and the run after it.
-struct Step {
-    taken: usize,
-    run: Run,
-}
-
-// A proved loop has to end, and nothing says that the input does. So the loop counts its turns down, from a number that no run uses up.
 fn main() {
-    let mut work = [0u8; frame::WORK_AREA];
-    let mut out = [0u8; frame::LONGEST_RECORD];
-    let mut run = first();
-    let mut turns = u64::MAX;
-    while turns > 0 {
-        if !run.is_going {
-            return;
-        }
-        run = read_some(run, &mut work, &mut out);
-        turns -= 1;
-    }
-}
-
-// Before the first byte.
-fn first() -> Run {
-    let channel = Channel::fresh();
-    Run {
-        channel,
-        place: 0,
-        is_going: true,
-    }
-}
-
-// Nothing more is read.
-fn ended(run: Run) -> Run
-    ensures { λ r. ⌜ r .«is_going» ≡ false ⌝ }
-{
-    let mut next = run;
-    next.is_going = false;
-    next
-}
-
-// Reads once and takes what came.
-fn read_some(run: Run, work: &mut Work, out: &mut Output) -> Run {
-    let mut piece = io::large_buffer();
-    let got = libc::read(STDIN_FILENO, &mut piece);
-    if got < 0 {
-        io::write_all(STDOUT_FILENO, b"the input cannot be read\n");
-        return ended(run);
-    }
-    if got == 0 {
-        let channel = run.channel;
-        say_end(channel.pending);
-        return ended(run);
-    }
-    let n = io::count(got, &piece);
-    take_all(run, &piece[..n], work, out)
-}
-
-// Takes bytes in order, until nothing more is read.
-fn take_all(run: Run, bytes: &[u8], work: &mut Work, out: &mut Output) -> Run {
-    let mut last = run;
-    let mut i: usize = 0;
-    while i < bytes.len() {
-        let step = take(last, &bytes[i..], work, out);
-        let next = step.run;
-        if !next.is_going {
-            return next;
-        }
-        last = next;
-        i += step.taken;
-    }
-    last
-}
-
-// One call of feed, and what there is to say of it. Behind a record the output is too short for another, so that the call stops before the
-// last byte of the next frame: the record's request is finished before that frame is judged, however the input came in pieces.
-fn take(run: Run, bytes: &[u8], work: &mut Work, out: &mut Output) -> Step
-    ensures { λ r. ⌜ (r .taken ≤ length (now (bytes .entry))) × (r .run .«is_going» ≡ true → 0 < r .taken) ⌝ }
-{
-    let before = run.channel;
-    let fed = before.feed(work, bytes, out);
-    let taken = fed.taken;
-    let after = fed.channel;
-    let written = keys::part(&out[..], 0, fed.written);
-    let channel = finished(after, written);
-    let next = Run {
-        channel,
-        place: std::num::wrapping_add_u64(run.place, taken as u64),
-        is_going: say_record(written),
-    };
-    let run = judged(next, fed.number, taken);
-    Step { taken, run }
-}
-
-// The channel with the record's request finished, where the record made it run.
-fn finished(channel: Channel, record: &[u8]) -> Channel {
-    let head = records::read_head(record);
-    if head.runs() {
-        let done = channel.finish(head.request);
-        let next = done.channel;
-        return next;
-    }
-    channel
-}
-
-// The run after an answer of feed: 0 and 5 go on, any other is said and ends it. So does a call that took nothing, which would go on for
-// ever; the demands' `Progress` says that there is none.
-fn judged(run: Run, number: u8, taken: usize) -> Run
-    ensures { λ r. ⌜ (r .«is_going» ≡ true → 0 < taken) ⌝ }
-{
-    if !run.is_going {
-        return ended(run);
-    }
-    if 0 < taken {
-        if number == 0 {
-            return run;
-        }
-        if number == 5 {
-            return run;
-        }
-    }
-    say_refusal(number, run.place);
-    ended(run)
-}
-
-// Writes the line of a record, where there is one, and answers whether the output took it.
-fn say_record(record: &[u8]) -> bool {
-    if record.len() == 0 {
-        return true;
-    }
-    let mut text = [0u8; 24576];
-    let n = line::put_record(record, &mut text);
-    say(&text, n)
-}
-
-// Writes what was refused, by its number and the count of bytes taken, the last of which was judged.
-fn say_refusal(number: u8, place: u64) {
-    let mut text = [0u8; 24576];
-    let n = line::put_refusal(number, std::num::wrapping_sub_u64(place, 1), &mut text);
-    say(&text, n);
-}
-
-// Writes how much there is of a frame that the input ends in.
-fn say_end(pending: usize) {
-    if pending == 0 {
+    let count = os::arg_count();
+    if count < 2 {
+        take_standard();
         return;
     }
-    let mut text = [0u8; 24576];
-    let n = line::put_end(pending, &mut text);
-    say(&text, n);
+    let mut i: usize = 1;
+    while i < count {
+        take_argument(i, 2 < count);
+        i += 1;
+    }
 }
 
-// Writes the first n bytes of a text, and answers whether the output took them.
-fn say(text: &Text, n: usize) -> bool {
-    io::write_all(STDOUT_FILENO, keys::part(text, 0, n))
+// Standard input, which has no name.
+fn take_standard() {
+    input::take_input(
+        Input {
+            file: STDIN_FILENO,
+            is_titled: false,
+        },
+        b"",
+    );
+}
+
+// Does what an argument asks. One that is empty, or longer than a path, is no name.
+fn take_argument(i: usize, is_titled: bool) {
+    let mut word = io::buffer();
+    let n = os::arg(i, &mut word);
+    if n == 0 {
+        say::say_nameless(i, os::errno());
+        return;
+    }
+    take_word(keys::part(&word, 0, n), is_titled);
+}
+
+// An option begins with a dash; a dash alone is standard input.
+fn take_word(word: &[u8], is_titled: bool) {
+    if (1 < word.len()) & (frame::byte_at(word, 0) == b'-') {
+        answer(word);
+        return;
+    }
+    take_file(word, is_titled);
+}
+
+// Writes what an option asks for.
+fn answer(option: &[u8]) {
+    if keys::same_key(option, b"--help") {
+        say::say_help();
+        return;
+    }
+    say::say_unknown(option);
+}
+
+// Opens a file, takes what is in it and closes it. Standard input stays open, for an argument behind.
+fn take_file(name: &[u8], is_titled: bool) {
+    let file = opened(name);
+    if file < 0 {
+        say::say_unread(name, os::errno());
+        return;
+    }
+    input::take_input(Input { file, is_titled }, name);
+    if file != STDIN_FILENO {
+        libc::close(file);
+    }
+}
+
+// A file that is open for reading, or -1.
+fn opened(name: &[u8]) -> i32 {
+    if keys::same_key(name, b"-") {
+        return STDIN_FILENO;
+    }
+    os::open_read(name)
 }

@@ -60,7 +60,7 @@ impl<'r> Record<'r> {
     fn line(&self) -> String {
         let (request, bit) = (self.request, self.bit);
         if !self.is_command {
-            let (count, bytes) = (self.content.len(), to_hex(self.content));
+            let (count, bytes) = (self.content.len(), byte_string(self.content));
             return format!("data {request} last {bit} {count} bytes {bytes}\n");
         }
         let Some(Value::Map(entries)) = read_whole(self.content) else {
@@ -80,14 +80,23 @@ impl<'r> Record<'r> {
     }
 }
 
+/// Text in single quotes (RFC 8610, appendix G.2) where no character of it has
+/// to be escaped, hex elsewhere.
+fn byte_string(bytes: &[u8]) -> String {
+    let is_plain = |c: char| matches!(c, ' '..='~') && !matches!(c, '\'' | '\\');
+    match std::str::from_utf8(bytes) {
+        Ok(text) if text.chars().all(is_plain) => format!("'{text}'"),
+        _ => format!("h'{}'", to_hex(bytes)),
+    }
+}
+
 /// The diagnostic notation of RFC 7049, section 6.
 fn notation(value: &Value) -> String {
     let list = |items: &[Value]| items.iter().map(notation).collect::<Vec<_>>().join(", ");
     match value {
         Value::Unsigned(n) => n.to_string(),
         Value::Negative(n) => (-1 - i128::from(*n)).to_string(),
-        Value::Bytes([]) => "h''".to_string(),
-        Value::Bytes(bytes) => format!("h'{}'", to_hex(bytes)),
+        Value::Bytes(bytes) => byte_string(bytes),
         Value::Array(items) => format!("[{}]", list(items)),
         Value::Set(members) => format!("258([{}])", list(members)),
         Value::Map(entries) => {
@@ -120,7 +129,7 @@ mod tests {
             (b"\x29", "-10"),
             (b"\xf4", "false"),
             (b"\xf6", "null"),
-            (b"\x40", "h''"),
+            (b"\x40", "''"),
             (b"\x44\x01\x02\x03\x04", "h'01020304'"),
             (b"\x83\x01\x82\x02\x03\x82\x04\x05", "[1, [2, 3], [4, 5]]"),
             (
@@ -134,11 +143,30 @@ mod tests {
         }
     }
 
+    /// RFC 8610, appendix G.2; and the edges of what can stand in quotes.
+    #[test]
+    fn text_in_quotes() {
+        let cases: [(&[u8], &str); 9] = [
+            (b"hello world", "'hello world'"),
+            (b" ~", "' ~'"),
+            (b"\"", "'\"'"),
+            (b"it's", "h'69742773'"),
+            (b"a\\b", "h'615c62'"),
+            (b"a\x1f", "h'611f'"),
+            (b"a\x7f", "h'617f'"),
+            (b"\xc3\xbc", "h'c3bc'"),
+            (b"\xff", "h'ff'"),
+        ];
+        for (bytes, text) in cases {
+            assert_eq!(byte_string(bytes), text);
+        }
+    }
+
     /// T1, and a byte more.
     #[test]
     fn first_trace() {
         let t1 = b"\x10\0\0\x01\0\x01\x01\x11\xa2\x44name\x43set\x44args\xa0";
-        let line = "command 1 data 0 name h'736574' args {}\n";
+        let line = "command 1 data 0 name 'set' args {}\n";
         assert_eq!(lines(t1, |_| String::new()), line);
         let more = [&t1[..], b"\0"].concat();
         let end = "the input ends inside a frame, after 1 of its bytes\n";

@@ -1,15 +1,15 @@
--- `receive::main` is safe and ends. The measure is the number of turns that are left.
+-- `receive::main` is safe and ends. The measure is how many arguments are left.
 -- Assumes nothing.
-use borrow.Author.Needs.{needs}
-use Prim.Native.Nat.{_≤_}
+use Prim.Native.Nat.{_-_, _≤_}
+use native.Mathlib.Omega.{arith}
 use Rattle.receive.proofs.main.Statement.{statement}
 use Rattle.receive.proofs.main.Tie as tie
 
 abbrev Inv-loop : tie.InvT-loop
-Inv-loop work₀ out₀ run₀ turns₀ work out run turns = turns ≤ turns₀
+Inv-loop count i₀ i = i₀ ≤ i
 
 abbrev μ-loop : tie.MeasureT-loop
-μ-loop work₀ out₀ run₀ turns₀ work out run turns = turns
+μ-loop count i₀ i = count - i
 
 pub main-spec : {M : Type 1} → statement M
 main-spec =
@@ -18,10 +18,11 @@ main-spec =
     Inv-loop
     μ-loop
     (λ c κs. tt)
-    (λ c. search needs)
-    (λ c. search needs)
     (λ c κs. tt)
-    (λ c. search needs)
-    (λ c. search needs)
-    (λ c. search needs)
-    (λ c. search needs))
+    (λ c. tt)
+    (λ c. omega arith)
+    (λ c κs. tt)
+    (λ c. omega arith)
+    (λ c. omega arith)
+    (λ c. omega arith)
+    (λ c. tt))

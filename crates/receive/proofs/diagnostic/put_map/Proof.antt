@@ -21,6 +21,7 @@ put-map-spec =
     μ-loop
     (λ c. search needs)
     (λ c κs. tt)
+    (λ c κs. tt)
     (λ c. search needs)
     (λ c κs. search needs)
     (λ c. search needs)

@@ -1,12 +1,12 @@
--- `receive::take_all` is safe and ends. The measure is what is left of the bytes: a run that goes on took some.
+-- `receive::input::take_all` is safe and ends. The measure is what is left of the bytes: a run that goes on took some.
 -- Assumes nothing.
 use borrow.Author.Needs.{needs}
 use borrow.Author.Tests.{not-false}
 use Prim.Native.Nat.{_-_, _≤_}
 use native.Mathlib.Omega.{arith}
 use lib.ListN.{length, length-take, length-drop}
-use Rattle.receive.proofs.take_all.Statement.{statement}
-use Rattle.receive.proofs.take_all.Tie as tie
+use Rattle.receive.proofs.input.take_all.Statement.{statement}
+use Rattle.receive.proofs.input.take_all.Tie as tie
 
 abbrev Inv-loop : tie.InvT-loop
 Inv-loop bytes work₀ out₀ last₀ i₀ work out last i = i ≤ length bytes

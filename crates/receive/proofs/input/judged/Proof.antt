@@ -1,12 +1,12 @@
--- `receive::judged` meets its contract: a run that has ended does not go on.
+-- `receive::input::judged` meets its contract: a run that has ended does not go on.
 -- Assumes nothing.
 use borrow.Author.Needs.{needs}
 use mathlib.Core.Path.{_≡_}
 use mathlib.Core.Bool.{Bool, true, false}
 use Prim.Native.Nat.{ℕ, _<_}
 use native.Mathlib.Omega.{arith}
-use Rattle.receive.proofs.judged.Statement.{statement}
-use Rattle.receive.proofs.judged.Tie as tie
+use Rattle.receive.proofs.input.judged.Statement.{statement}
+use Rattle.receive.proofs.input.judged.Tie as tie
 
 -- what is false is not true
 never : {b : Bool} {n : ℕ} → b ≡ false → b ≡ true → 0 < n

@@ -1,9 +1,9 @@
--- `receive::take` meets its contract: feed takes no more bytes than it is given.
+-- `receive::input::take` meets its contract: feed takes no more bytes than it is given.
 -- Assumes nothing.
 use Rattle.session.proofs.Pieces.{feed-within}
 use Rattle.channel.specs.Channel.{channel}
-use Rattle.receive.proofs.take.Statement.{statement}
-use Rattle.receive.proofs.take.Tie as tie
+use Rattle.receive.proofs.input.take.Statement.{statement}
+use Rattle.receive.proofs.input.take.Tie as tie
 
 returns : tie.Need-returns
 returns c = (feed-within channel _ _ _ (c .before .before .before .before .before .before .before .before .feed .ensures), c .judged .ensures)
