@@ -1,16 +1,19 @@
-//! Receivers to measure beside `pump`, and the inputs for all of them.
+//! The receivers that are measured, and the inputs for all of them.
 //!
-//!     feed make KIND SIZE                        writes an input with SIZE payload bytes
-//!     feed second|fast|copy|read PIECE OUTPUT    feeds standard input in pieces, with an output of a length
-//!     feed compare SEED COUNT                    holds `fast` to the second receiver
+//!     feed make KIND SIZE                                writes an input with SIZE payload bytes
+//!     feed archive|second|fast|copy|read PIECE OUTPUT    feeds standard input in pieces, with an output of a length
+//!     feed compare SEED COUNT                            holds `fast` to the second receiver
 //!
-//! `second` is the plain receiver of the second implementation, which takes
-//! bytes singly. `fast` is a receiver by hand. `copy` is the least that any
-//! of them does: each byte is copied to a work area, and on to an output.
-//! `read` only reads, which the others do too.
+//! `archive` is the channel of the archive hgrpc, as users link it. `second`
+//! is the plain receiver of the second implementation, which takes bytes
+//! singly. `fast` is a receiver by hand. `copy` is the least that any of them
+//! does: each byte is copied to a work area, and on to an output. `read` only
+//! reads, which the others do too.
 
 mod check;
 mod fast;
+#[path = "../bindings/hgrpc.rs"]
+mod hgrpc;
 
 use fast::{Fed, RECORD, WORK};
 use second::receiver::{Receiver, Uncut};
@@ -25,6 +28,26 @@ use std::process::exit;
 trait Feed {
     fn feed(&mut self, input: &[u8], out: &mut [u8]) -> Fed;
     fn finish(&mut self, id: u16) -> u8;
+}
+
+struct Channel<'w> {
+    state: hgrpc::State,
+    work: &'w mut [u8],
+}
+
+impl Feed for Channel<'_> {
+    fn feed(&mut self, input: &[u8], out: &mut [u8]) -> Fed {
+        let fed = self.state.feed(self.work, input, out);
+        Fed {
+            number: fed.number as u8,
+            taken: fed.taken,
+            written: fed.written,
+        }
+    }
+
+    fn finish(&mut self, id: u16) -> u8 {
+        self.state.finish(id) as u8
+    }
 }
 
 impl Feed for fast::Receiver<'_> {
@@ -71,7 +94,7 @@ fn next_is_last(receiver: &Uncut) -> bool {
     pending >= 7 && pending == 7 + second::frame::claimed(&receiver.work)
 }
 
-// ---- the harness, as in crates/pump
+// ---- the harness
 
 #[derive(Default)]
 struct Counts {
@@ -105,7 +128,7 @@ fn pieces(most: usize, mut piece: impl FnMut(&[u8])) -> Result<()> {
     }
 }
 
-fn pump(receiver: &mut impl Feed, most: usize, output: usize) -> Result<()> {
+fn feed_all(receiver: &mut impl Feed, most: usize, output: usize) -> Result<()> {
     let mut room = [0; 16 * RECORD];
     let out = &mut room[..output];
     let mut counts = Counts::default();
@@ -310,7 +333,7 @@ fn fail(reason: &str) -> ! {
 }
 
 fn usage() -> ! {
-    fail("make KIND SIZE, second|fast|copy|read PIECE OUTPUT or compare SEED COUNT")
+    fail("make KIND SIZE, archive|second|fast|copy|read PIECE OUTPUT or compare SEED COUNT")
 }
 
 fn main() -> Result<()> {
@@ -319,12 +342,20 @@ fn main() -> Result<()> {
     let number = |word: &str| word.parse().unwrap_or_else(|_| usage());
     match words[..] {
         ["make", kind, size] => make(kind, number(size)),
-        ["second", most, output] => pump(
+        ["archive", most, output] => feed_all(
+            &mut Channel {
+                state: hgrpc::State::fresh(),
+                work: &mut [0; WORK],
+            },
+            number(most),
+            number(output),
+        ),
+        ["second", most, output] => feed_all(
             &mut Uncut::start(State::fresh(), vec![0; WORK]),
             number(most),
             number(output),
         ),
-        ["fast", most, output] => pump(
+        ["fast", most, output] => feed_all(
             &mut fast::Receiver::new(&mut [0; WORK]),
             number(most),
             number(output),
