@@ -1,8 +1,5 @@
--- Laws of the layout, of loops over it, and of the calls' answers.
-mod FieldLaws
-mod Loops
-mod Places
+-- The calls' answers, what refusals leave, whole sessions, and a command's parts.
 mod CallLaws
-pub mod StateLaws
+pub mod Refusals
 pub mod Sessions
 pub mod PartLaws

@@ -16,7 +16,7 @@ use Rattle.command.specs.declared.Place.{Place}
 use Rattle.command.specs.declared.Place.the-variants.{Found, NotFound}
 use Rattle.command.specs.Command.{checked, ifCommand}
 use Rattle.command.specs.Lookup.{argumentAt, integerAt, numberNumber, numberValue}
-use Rattle.hgrpc.specs.State.{stateLength, encode, decode}
+use Rattle.layout.specs.State.{stateLength, encode, decode}
 
 -- ---- the channel
 

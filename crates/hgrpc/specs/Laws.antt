@@ -1,51 +1,21 @@
--- What is proved beside the contracts, each claim under its name: of the state's bytes and of refusals in proofs/StateLaws.antt, of a
--- command's parts in proofs/PartLaws.antt, of whole sessions in proofs/Sessions.antt. These are definitions: they assume nothing.
-use Prim.Native.Nat.{ℕ, suc, _<_, _≤_, _^_}
+-- What is proved beside the contracts, each claim under its name: of refusals in proofs/Refusals.antt, of whole sessions in
+-- proofs/Sessions.antt, of a command's parts in proofs/PartLaws.antt. These are definitions: they assume nothing.
+use Prim.Native.Nat.{ℕ, suc, _<_, _≤_}
 use mathlib.Core.Path.{_≡_}
 use mathlib.Core.Bool.{true, false}
 use mathlib.Core.List.{List, [], _∷_}
 use mathlib.Core.Option.{some, none}
-use lib.ListN.{length, take, drop, getD}
-use Rattle.frame.specs.Limits.{slotCount, streamCount, longestRecord, workArea}
-use Rattle.requests.specs.declared.Slot.{Slot}
+use lib.ListN.{length, take, drop}
+use Rattle.frame.specs.Limits.{longestRecord, workArea}
 use Rattle.session.specs.Session.{Call, feeds, owns, Outcome, fed, answered, uncut, session, events}
 use Rattle.channel.specs.declared.Channel.{Channel}
 use Rattle.channel.specs.Receiver.{Receiver}
 use Rattle.channel.specs.Channel.{shape, channel}
 use Rattle.command.specs.Lookup.{nameOf, argumentAt, partAt}
 use Rattle.demands.specs.Demands.{Sound, Fed, freshOn}
-use Rattle.hgrpc.specs.State.{encode, decode}
+use Rattle.layout.specs.State.{encode, decode}
+use Rattle.layout.specs.Laws.{AreBytes, StateFits}
 use Rattle.hgrpc.specs.Calls.{kept, answer, feedAnswer, finishAnswer, nameAnswer, argumentAnswer}
-
--- ---- the state's bytes
-
--- what a byte slice guarantees
-pub record AreBytes (b : List ℕ) : Type 0 where
-  pub byte : (i : ℕ) → getD b i 0 < 256
-
-abbrev pub AllFit : {A : Type 0} → (A → Type 0) → List A → Type 0
-AllFit F [] = Unit {0}
-AllFit F (x ∷ xs) = F x × AllFit F xs
-
--- numbers that fit their fields
-pub record SlotFits (x : Slot) : Type 0 where
-  pub id : x .id < 2 ^ 16
-  pub length : x .length < 2 ^ 16
-
-pub record StateFits (s : Channel) : Type 0 where
-  pub dead : s .dead < 2 ^ 8
-  pub pending : s .pending < 2 ^ 16
-  pub slotCount : length (s .slots) ≡ slotCount
-  pub slots : AllFit SlotFits (s .slots)
-  pub streamCount : length (s .streams) ≡ streamCount
-
--- every state that fits its fields comes back
-abbrev pub Back : Type 0
-Back = (s : Channel) → StateFits s → decode (encode s) ≡ some s
-
--- bytes are decoded only if they are an encoding
-abbrev pub Only : Type 0
-Only = (b : List ℕ) (s : Channel) → AreBytes b → decode b ≡ some s → b ≡ encode s
 
 -- ---- refusals: no count, and every lent byte as it was
 

@@ -1,6 +1,5 @@
 // The channel for C and Rust: its state is a lent run of bytes. A byte slice is a pointer and then a length; the number is the result.
 mod commands;
-mod state;
 
 use channel::Channel;
 ghost use mathlib.Core.Path.{_≡_};
@@ -11,10 +10,10 @@ ghost use Rattle.hgrpc.specs.Calls.{kept, answer, freshAnswer, finishAns
 pub extern "C" fn hgrpc_fresh(state: &mut [u8]) -> u32
     ensures { λ r. ⌜ kept r (now (state .exit)) ≡ freshAnswer (now (state .entry)) ⌝ }
 {
-    if state.len() != state::STATE {
+    if state.len() != layout::STATE {
         return 3;
     }
-    state::put_state(state, Channel::fresh());
+    layout::put_state(state, Channel::fresh());
     0
 }
 
@@ -36,15 +35,15 @@ pub extern "C" fn hgrpc_feed(
     if work.len() < frame::WORK_AREA {
         return 2;
     }
-    if !state::is_state(&state[..]) {
+    if !layout::is_state(&state[..]) {
         return 3;
     }
-    let channel = state::state_of(&state[..]);
+    let channel = layout::state_of(&state[..]);
     let fed = channel.feed(work, input, out);
     *taken = fed.taken;
     *written = fed.written;
     let next = fed.channel;
-    state::put_state(state, next);
+    layout::put_state(state, next);
     fed.number as u32
 }
 
@@ -53,12 +52,12 @@ pub extern "C" fn hgrpc_feed(
 pub extern "C" fn hgrpc_finish(state: &mut [u8], id: u16) -> u32
     ensures { λ r. ⌜ kept r (now (state .exit)) ≡ finishAnswer (now (state .entry)) id ⌝ }
 {
-    if !state::is_state(&state[..]) {
+    if !layout::is_state(&state[..]) {
         return 3;
     }
-    let channel = state::state_of(&state[..]);
+    let channel = layout::state_of(&state[..]);
     let finished = channel.finish(id);
     let next = finished.channel;
-    state::put_state(state, next);
+    layout::put_state(state, next);
     finished.number as u32
 }

@@ -3,8 +3,7 @@
 use borrow.Author.Needs.{needs}
 use borrow.Author.Tests.{not-true, not-false}
 use mathlib.Core.Path.{sym, _∙_}
-use native.Mathlib.Omega.{arith}
-use Rattle.hgrpc.proofs.CallLaws.{state-length, feed-short, feed-none, feed-done}
+use Rattle.hgrpc.proofs.CallLaws.{feed-short, feed-none, feed-done}
 use Rattle.hgrpc.proofs.hgrpc_feed.Statement.{statement}
 use Rattle.hgrpc.proofs.hgrpc_feed.Tie as tie
 
@@ -13,17 +12,6 @@ returns c = feed-short _ _ _ _ (c .if1 .taken)
 
 returns-2 : tie.Need-returns-2
 returns-2 c = feed-none _ _ _ _ (c .before .before .before .if1 .left) (sym (c .before .is-state .ensures) ∙ not-true _ (c .if2 .taken))
-
-state-of-requires : tie.Need-state-of-requires
-state-of-requires c κs =
-    let k = c .before in
-    let h = state-length _ (sym (k .before .is-state .ensures) ∙ not-false _ (k .if2 .left)) in
-    omega arith
-
-put-state-requires : tie.Need-put-state-requires
-put-state-requires c κs =
-    let k = c .before .before .before .before .before .before .before .before .before .before .before in
-    state-length _ (sym (k .before .is-state .ensures) ∙ not-false _ (k .if2 .left))
 
 returns-3 : tie.Need-returns-3
 returns-3 c =
@@ -41,9 +29,9 @@ hgrpc-feed-spec =
     (λ c κs. search needs)
     (λ c. search needs)
     returns-2
-    state-of-requires
     (λ c κs. search needs)
-    put-state-requires
+    (λ c κs. search needs)
+    (λ c κs. search needs)
     (λ c. search needs)
     (λ c. search needs)
     (λ c. search needs)

@@ -3,24 +3,12 @@
 use borrow.Author.Needs.{needs}
 use borrow.Author.Tests.{not-true, not-false}
 use mathlib.Core.Path.{sym, _∙_}
-use native.Mathlib.Omega.{arith}
-use Rattle.hgrpc.proofs.CallLaws.{state-length, finish-none, finish-done}
+use Rattle.hgrpc.proofs.CallLaws.{finish-none, finish-done}
 use Rattle.hgrpc.proofs.hgrpc_finish.Statement.{statement}
 use Rattle.hgrpc.proofs.hgrpc_finish.Tie as tie
 
 returns : tie.Need-returns
 returns c = finish-none _ _ (sym (c .before .is-state .ensures) ∙ not-true _ (c .if1 .taken))
-
-state-of-requires : tie.Need-state-of-requires
-state-of-requires c κs =
-    let k = c .before in
-    let h = state-length _ (sym (k .before .is-state .ensures) ∙ not-false _ (k .if1 .left)) in
-    omega arith
-
-put-state-requires : tie.Need-put-state-requires
-put-state-requires c κs =
-    let k = c .before .before .before .before .before in
-    state-length _ (sym (k .before .is-state .ensures) ∙ not-false _ (k .if1 .left))
 
 returns-2 : tie.Need-returns-2
 returns-2 c =
@@ -36,9 +24,9 @@ hgrpc-finish-spec =
     (λ c κs. search needs)
     (λ c. search needs)
     returns
-    state-of-requires
     (λ c κs. search needs)
-    put-state-requires
+    (λ c κs. search needs)
+    (λ c κs. search needs)
     (λ c. search needs)
     (λ c. search needs)
     returns-2)

@@ -1,0 +1,186 @@
+-- The laws of a layout's fields: a value that fits comes back, and bytes are good only if they are a value's.
+-- Assumes nothing.
+use Prim.Native.Nat.{ℕ, zero, suc, _+_, _*_, _/_, _%_, _^_, _<_, _≤_}
+use mathlib.Core.Bool.{Bool, true, false, _&&_}
+use mathlib.Core.List.{List, [], _∷_, _++_, append-assoc}
+use mathlib.Core.Path.{_≡_, refl, sym, ap, _∙_}
+use native.Mathlib.Nat.{pow-suc, suc-mul, zero-mul}
+use native.Mathlib.Omega.{arith}
+use borrow.Author.Tests.{lt-ltb, ltb-true}
+use lib.ListN.{length, take, drop, getD, length-append, length-drop}
+use lib.Seq.{getD-drop, drop-at, take-add}
+use Rattle.layout.specs.Fields.{Field, bytesOf, little, number, choice, both, putAll, getAll, goodAll, many, standing}
+use Rattle.layout.specs.Laws.{AreBytes, AllFit}
+
+pub record Lawful {A : Type 0} (f : Field A) (Fits : A → Type 0) : Type 0 where
+  pub size : (a : A) → Fits a → length (f .put a) ≡ f .width
+  pub back : (a : A) (r : List ℕ) → Fits a → f .get (f .put a ++ r) ≡ a
+  pub passes : (a : A) (r : List ℕ) → Fits a → f .good (f .put a ++ r) ≡ true
+  pub only : (b : List ℕ) → AreBytes b → f .width ≤ length b → f .good b ≡ true → f .put (f .get b) ≡ take (f .width) b
+
+pub bytes-drop : (n : ℕ) (b : List ℕ) → AreBytes b → AreBytes (drop n b)
+bytes-drop n b h = record { byte = λ i. rw getD-drop (h .byte (n + i)) }
+
+pub and-left : (x y : Bool) → (x && y) ≡ true → x ≡ true
+and-left true y h = refl
+and-left false y h = h
+
+pub and-right : (x y : Bool) → (x && y) ≡ true → y ≡ true
+and-right true y h = h
+and-right false y h = let z : _≡_ {A = ℕ} 0 1 = cc in absurd (none z)
+  where
+    none : _≡_ {A = ℕ} 0 1 → ⊥
+    none k = omega arith
+
+-- ---- a number
+
+abbrev pub InBytes : ℕ → ℕ → Type 0
+InBytes w n = n < 256 ^ w
+
+number-size : (w n : ℕ) → length (bytesOf w n) ≡ w
+number-size zero n = refl
+number-size (suc w) n = ap suc (number-size w (n / 256))
+
+little-cons : (w i x : ℕ) (xs : List ℕ) → little w (suc i) (x ∷ xs) ≡ little w i xs
+little-cons zero i x xs = refl
+little-cons (suc w) i x xs = ap (λ (n : ℕ). getD xs i 0 + 256 * n) (little-cons w (suc i) x xs)
+
+number-back : (w n : ℕ) (r : List ℕ) → InBytes w n → little w 0 (bytesOf w n ++ r) ≡ n
+number-back zero n r h = omega arith
+number-back (suc w) n r h =
+    let k : n / 256 < 256 ^ w = omega (arith, pow-suc 256 w) in
+    let e : little w 0 (bytesOf w (n / 256) ++ r) ≡ n / 256 = number-back w (n / 256) r k in
+    omega (arith, little-cons w 0 (n % 256) (bytesOf w (n / 256) ++ r))
+
+number-only : (w : ℕ) (b : List ℕ) → AreBytes b → w ≤ length b → bytesOf w (little w 0 b) ≡ take w b
+number-only zero b h l = refl
+number-only (suc w) [] h l = absurd (none l)
+  where
+    none : suc w ≤ 0 → ⊥
+    none k = omega arith
+number-only (suc w) (x ∷ xs) h l =
+    let v : ℕ = little w 0 xs in
+    let low : (x + 256 * v) % 256 ≡ x = omega (arith, h .byte 0) in
+    let high : (x + 256 * v) / 256 ≡ v = omega (arith, h .byte 0) in
+    rw (little-cons w 0 x xs, low, high) (ap (λ (t : List ℕ). x ∷ t) (number-only w xs (bytes-drop 1 (x ∷ xs) h) (omega arith)))
+
+pub number-lawful : (w : ℕ) → Lawful (number w) (InBytes w)
+number-lawful w = record { size = λ n h. number-size w n; back = number-back w; passes = λ n r h. refl; only = λ b h l g. number-only w b h l }
+
+-- ---- a choice
+
+pub record Coded {A : Type 0} (count : ℕ) (code : A → ℕ) (of : ℕ → A) : Type 0 where
+  pub below : (a : A) → code a < count
+  pub back : (a : A) → of (code a) ≡ a
+  pub only : (n : ℕ) → n < count → code (of n) ≡ n
+
+abbrev pub Any : {A : Type 0} → A → Type 0
+Any a = Unit {0}
+
+pub choice-lawful : {A : Type 0} (count : ℕ) (code : A → ℕ) (of : ℕ → A) → Coded count code of → Lawful (choice count code of) Any
+choice-lawful count code of c = record {
+  size = λ a h. refl;
+  back = λ a r h. c .back a;
+  passes = λ a r h. lt-ltb (code a) count (c .below a);
+  only = one;
+}
+  where
+    one : (b : List ℕ) → AreBytes b → 1 ≤ length b → choice count code of .good b ≡ true → choice count code of .put (choice count code of .get b) ≡ take 1 b
+    one [] h l g = absurd (none l)
+      where
+        none : 1 ≤ 0 → ⊥
+        none k = omega arith
+    one (x ∷ xs) h l g = ap (λ (n : ℕ). n ∷ []) (c .only x (ltb-true x count g))
+
+-- ---- one behind another
+
+pair-eq : {A B : Type 0} {a c : A} {b d : B} → a ≡ c → b ≡ d → _≡_ {A = A × B} (a, b) (c, d)
+pair-eq {A} {B} {a} {c} {b} {d} p q = ap {B = A × B} (λ (x : A). (x, b)) p ∙ ap {B = A × B} (λ (y : B). (c, y)) q
+
+and-both : {x y : Bool} → x ≡ true → y ≡ true → (x && y) ≡ true
+and-both p q = rw (p, q)
+
+-- what stands behind a value's bytes
+module _ {A : Type 0} {f : Field A} {F : A → Type 0} (p : Lawful f F) (a : A) (more r : List ℕ) (h : F a) where
+  first-of : f .get ((f .put a ++ more) ++ r) ≡ a
+  first-of = ap (f .get) (append-assoc (f .put a) more r) ∙ p .back a (more ++ r) h
+
+  first-good : f .good ((f .put a ++ more) ++ r) ≡ true
+  first-good = ap (f .good) (append-assoc (f .put a) more r) ∙ p .passes a (more ++ r) h
+
+  rest-of : drop (f .width) ((f .put a ++ more) ++ r) ≡ more ++ r
+  rest-of = ap (drop (f .width)) (append-assoc (f .put a) more r) ∙ drop-at (f .put a) (more ++ r) (f .width) (p .size a h)
+
+module _ {A B : Type 0} {f : Field A} {g : Field B} {F : A → Type 0} {G : B → Type 0} (p : Lawful f F) (q : Lawful g G) where
+  pub both-lawful : Lawful (both f g) (λ t. F (t .0) × G (t .1))
+  both-lawful = record {
+    size = λ t h. length-append (f .put (t .0)) (g .put (t .1)) ∙ ap (λ (n : ℕ). n + length (g .put (t .1))) (p .size (t .0) (h .0)) ∙ ap (λ (n : ℕ). f .width + n) (q .size (t .1) (h .1));
+    back = λ t r h.
+        pair-eq (first-of p (t .0) (g .put (t .1)) r (h .0)) (ap (g .get) (rest-of p (t .0) (g .put (t .1)) r (h .0)) ∙ q .back (t .1) r (h .1));
+    passes = λ t r h.
+        and-both (first-good p (t .0) (g .put (t .1)) r (h .0)) (ap (g .good) (rest-of p (t .0) (g .put (t .1)) r (h .0)) ∙ q .passes (t .1) r (h .1));
+    only = λ b h l k.
+        ap (λ (x : List ℕ). x ++ g .put (g .get (drop (f .width) b))) (p .only b h (omega arith) (and-left (f .good b) (g .good (drop (f .width) b)) k))
+        ∙ ap (λ (x : List ℕ). take (f .width) b ++ x)
+        (q .only (drop (f .width) b) (bytes-drop (f .width) b h) (omega (arith, length-drop (f .width) b)) (and-right (f .good b) (g .good (drop (f .width) b)) k))
+        ∙ sym (take-add (f .width) (g .width) b);
+  }
+
+-- ---- n times
+
+module _ {A : Type 0} {f : Field A} {F : A → Type 0} (p : Lawful f F) where
+  all-size : (n : ℕ) (l : List A) → length l ≡ n → AllFit F l → length (putAll f l) ≡ n * f .width
+  unfolding putAll
+  all-size zero [] e h = sym (zero-mul (f .width))
+  all-size zero (x ∷ xs) e h = absurd (none e)
+    where
+      none : suc (length xs) ≡ 0 → ⊥
+      none k = omega arith
+  all-size (suc n) [] e h = absurd (none e)
+    where
+      none : 0 ≡ suc n → ⊥
+      none k = omega arith
+  all-size (suc n) (x ∷ xs) e h =
+      let i = all-size n xs (omega arith) (h .1) in
+      omega (arith, length-append (f .put x) (putAll f xs), p .size x (h .0), suc-mul n (f .width))
+
+  all-back : (l : List A) (r : List ℕ) → AllFit F l → getAll f (length l) (putAll f l ++ r) ≡ l
+  unfolding putAll getAll
+  all-back [] r h = refl
+  all-back (x ∷ xs) r h =
+      ap (λ (y : A). y ∷ getAll f (length xs) (drop (f .width) ((f .put x ++ putAll f xs) ++ r))) (first-of p x (putAll f xs) r (h .0))
+      ∙ ap (λ (b : List ℕ). x ∷ getAll f (length xs) b) (rest-of p x (putAll f xs) r (h .0))
+      ∙ ap (λ (l : List A). x ∷ l) (all-back xs r (h .1))
+
+  all-passes : (l : List A) (r : List ℕ) → AllFit F l → goodAll f (length l) (putAll f l ++ r) ≡ true
+  unfolding putAll goodAll
+  all-passes [] r h = refl
+  all-passes (x ∷ xs) r h =
+      and-both (first-good p x (putAll f xs) r (h .0)) (ap (goodAll f (length xs)) (rest-of p x (putAll f xs) r (h .0)) ∙ all-passes xs r (h .1))
+
+  all-only : (n : ℕ) (b : List ℕ) → AreBytes b → n * f .width ≤ length b → goodAll f n b ≡ true → putAll f (getAll f n b) ≡ take (n * f .width) b
+  unfolding putAll getAll goodAll
+  all-only zero b h l g = ap (λ (k : ℕ). take k b) (sym (zero-mul (f .width)))
+  all-only (suc n) b h l g =
+      let s : suc n * f .width ≡ f .width + n * f .width = omega (arith, suc-mul n (f .width)) in
+      ap (λ (x : List ℕ). x ++ putAll f (getAll f n (drop (f .width) b))) (p .only b h (omega arith) (and-left (f .good b) (goodAll f n (drop (f .width) b)) g))
+      ∙ ap (λ (x : List ℕ). take (f .width) b ++ x)
+      (all-only n (drop (f .width) b) (bytes-drop (f .width) b h) (omega (arith, length-drop (f .width) b)) (and-right (f .good b) (goodAll f n (drop (f .width) b)) g))
+      ∙ sym (take-add (f .width) (n * f .width) b)
+      ∙ ap (λ (k : ℕ). take k b) (sym s)
+
+  pub many-lawful : (n : ℕ) → Lawful (many f n) (λ l. (length l ≡ n) × AllFit F l)
+  many-lawful n = record {
+    size = λ l h. all-size n l (h .0) (h .1);
+    back = λ l r h. ap (λ (k : ℕ). getAll f k (putAll f l ++ r)) (sym (h .0)) ∙ all-back l r (h .1);
+    passes = λ l r h. ap (λ (k : ℕ). goodAll f k (putAll f l ++ r)) (sym (h .0)) ∙ all-passes l r (h .1);
+    only = all-only n;
+  }
+
+  pub standing-lawful : {B : Type 0} (to : B → A) (of : A → B) → ((x : B) → of (to x) ≡ x) → ((t : A) → to (of t) ≡ t) → Lawful (standing f to of) (λ x. F (to x))
+  standing-lawful to of d e = record {
+    size = λ x h. p .size (to x) h;
+    back = λ x r h. ap of (p .back (to x) r h) ∙ d x;
+    passes = λ x r h. p .passes (to x) r h;
+    only = λ b h l g. ap (f .put) (e (f .get b)) ∙ p .only b h l g;
+  }

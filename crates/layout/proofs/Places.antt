@@ -1,0 +1,199 @@
+-- What the code reads and puts at each place, against the layout: one law for a field behind another, and then a line for each field.
+-- Assumes nothing.
+use Prim.Native.Nat.{ℕ, zero, suc, _+_, _-_, _*_, _/_, _%_, _<_}
+use mathlib.Core.Bool.{Bool, true, false, _&&_}
+use mathlib.Core.List.{List, [], _∷_, _++_}
+use mathlib.Core.Path.{_≡_, refl, sym, ap, _∙_}
+use native.Mathlib.Nat.{add-zero, mod-eq-of-lt}
+use native.Mathlib.Omega.{arith}
+use lib.ListN.{length, drop, getD, set, length-set, length-append}
+use lib.Dec.{ltb, eqb}
+use lib.Seq.{getD-drop, drop-drop, take-all}
+use borrow.Author.Tests.{eq-eqb, ne-eqb}
+use mir.Val.{boolByte}
+use Rattle.frame.specs.Limits.{slotCount, streamCount}
+use Rattle.requests.specs.declared.Phase.{Phase}
+use Rattle.requests.specs.declared.Phase.the-variants.{Free}
+use Rattle.requests.specs.declared.Slot.{Slot}
+use Rattle.requests.specs.Phases.{code}
+use Rattle.channel.specs.declared.Channel.{Channel}
+use Rattle.buffer.specs.Bytes.{write}
+use Rattle.buffer.proofs.WriteLaws.{write-twice, set-write, length-write, take-front}
+use Rattle.layout.specs.Fields.{Field, number, both, many, getAll, goodAll, putAll}
+use Rattle.layout.specs.State.{flag, phaseOf, phase, phaseCount, slot, channel, pendingAt, slotsAt, streamsAt, stateLength, encode, isState, stateOf}
+use Rattle.layout.proofs.Loops.{getAll-at, putAll-length, putTo, put-more}
+
+and-true : (x : Bool) → (x && true) ≡ x
+and-true true = refl
+and-true false = refl
+
+-- ---- a field behind another: reading and judging from place p on, the second field from place q on; putting
+
+module _ {A B : Type 0} (f : Field A) (g : Field B) (b : List ℕ) (p q : ℕ) (e : f .width + p ≡ q) where
+  behind : drop (f .width) (drop p b) ≡ drop q b
+  behind =
+      let k : p + f .width ≡ q = omega arith in
+      drop-drop (f .width) p b ∙ ap (λ (n : ℕ). drop n b) k
+
+  pub both-get : _≡_ {A = A × B} (both f g .get (drop p b)) (f .get (drop p b), g .get (drop q b))
+  both-get = ap {B = A × B} (λ (l : List ℕ). (f .get (drop p b), g .get l)) behind
+
+  pub both-good : both f g .good (drop p b) ≡ (f .good (drop p b) && g .good (drop q b))
+  both-good = ap (λ (l : List ℕ). f .good (drop p b) && g .good l) behind
+
+pub put-behind : (w : List ℕ) (p q : ℕ) (s t : List ℕ) → length s + p ≡ q → write (write w p s) q t ≡ write w p (s ++ t)
+put-behind w p q s t e =
+    let k : q ≡ p + length s = omega arith in
+    ap (λ (n : ℕ). write (write w p s) n t) k ∙ write-twice w p s t
+
+-- ---- a number of two bytes
+
+pub two-get : (b : List ℕ) (at : ℕ) → number 2 .get (drop at b) ≡ getD b at 0 + 256 * getD b (at + 1) 0
+two-get b at =
+    let x : getD (drop at b) 0 0 ≡ getD b at 0 = getD-drop at b 0 0 ∙ ap (λ (k : ℕ). getD b k 0) (add-zero at) in
+    let y : getD (drop at b) 1 0 ≡ getD b (at + 1) 0 = getD-drop at b 1 0 in
+    omega (arith, x, y)
+
+pub two-put : (b : List ℕ) (at n : ℕ) → set (set b at (n % 256)) (at + 1) (n / 256 % 256) ≡ write b at (number 2 .put n)
+two-put b at n =
+    let c : List ℕ = n % 256 ∷ [] in
+    ap (λ (w : List ℕ). set w (at + 1) (n / 256 % 256)) (set-write b at (n % 256))
+    ∙ set-write (write b at c) (at + 1) (n / 256 % 256)
+    ∙ put-behind b at (at + 1) c (n / 256 % 256 ∷ []) (omega arith)
+
+-- ---- one byte
+
+pub byte-get : (b : List ℕ) (at : ℕ) → getD (drop at b) 0 0 ≡ getD b at 0
+byte-get b at = getD-drop at b 0 0 ∙ ap (λ (k : ℕ). getD b k 0) (add-zero at)
+
+-- ---- a phase
+
+pub phase-other : (n : ℕ) → (n ≡ 1 → ⊥) → (n ≡ 2 → ⊥) → (n ≡ 3 → ⊥) → Free ≡ phaseOf n
+unfolding phaseOf
+phase-other zero a b c = refl
+phase-other (suc zero) a b c = absurd (a refl)
+phase-other (suc (suc zero)) a b c = absurd (b refl)
+phase-other (suc (suc (suc zero))) a b c = absurd (c refl)
+phase-other (suc (suc (suc (suc n)))) a b c = refl
+
+-- ---- a slot: its four fields behind one another
+
+module _ (b : List ℕ) (at : ℕ) where
+  pub slot-good : slot .good (drop at b) ≡ (ltb (getD b (at + 2) 0) phaseCount && ltb (getD b (at + 3) 0) 2)
+  slot-good =
+      both-good (number 2) (both phase (both flag (number 2))) b at (at + 2) (omega arith)
+      ∙ both-good phase (both flag (number 2)) b (at + 2) (at + 3) (omega arith)
+      ∙ ap (λ (x : Bool). phase .good (drop (at + 2) b) && x) (both-good flag (number 2) b (at + 3) (at + 4) (omega arith) ∙ and-true (flag .good (drop (at + 3) b)))
+      ∙ rw (byte-get b (at + 2), byte-get b (at + 3))
+
+  pub slot-get : slot .get (drop at b)
+      ≡ record { id = number 2 .get (drop at b); phase = phaseOf (getD b (at + 2) 0); databit = eqb (getD b (at + 3) 0) 1; length = number 2 .get (drop (at + 4) b) }
+  slot-get =
+      let made : ℕ × (Phase × (Bool × ℕ)) → Slot = λ t. record { id = t .0; phase = t .1 .0; databit = t .1 .1 .0; length = t .1 .1 .1 } in
+      let id : ℕ = number 2 .get (drop at b) in
+      let p : Phase = phase .get (drop (at + 2) b) in
+      ap made (both-get (number 2) (both phase (both flag (number 2))) b at (at + 2) (omega arith))
+      ∙ ap (λ (t : Phase × (Bool × ℕ)). made (id, t)) (both-get phase (both flag (number 2)) b (at + 2) (at + 3) (omega arith))
+      ∙ ap (λ (t : Bool × ℕ). made (id, (p, t))) (both-get flag (number 2) b (at + 3) (at + 4) (omega arith))
+      ∙ rw (byte-get b (at + 2), byte-get b (at + 3))
+
+-- in the steps of the code
+pub slot-put : (b c d : List ℕ) (at n : ℕ) (x : Slot) → c ≡ write b (at + 0) (number 2 .put (x .id)) → n ≡ code (x .phase)
+    → d ≡ write (set (set c (at + 2) n) (at + 3) (boolByte (x .databit))) (at + 4) (number 2 .put (x .length)) → d ≡ write b at (slot .put x)
+slot-put b c d at n x e f g =
+    let i : List ℕ = number 2 .put (x .id) in
+    let t : List ℕ = boolByte (x .databit) ∷ number 2 .put (x .length) in
+    let h : c ≡ write b at i = e ∙ ap (λ (k : ℕ). write b k i) (add-zero at) in
+    g
+    ∙ ap (λ (w : List ℕ). write w (at + 4) (number 2 .put (x .length))) (set-write (set c (at + 2) n) (at + 3) (boolByte (x .databit)))
+    ∙ put-behind (set c (at + 2) n) (at + 3) (at + 4) (boolByte (x .databit) ∷ []) (number 2 .put (x .length)) (omega arith)
+    ∙ ap (λ (w : List ℕ). write w (at + 3) t) (set-write c (at + 2) n)
+    ∙ put-behind c (at + 2) (at + 3) (n ∷ []) t (omega arith)
+    ∙ rw (h, f) (put-behind b at (at + 2) i (code (x .phase) ∷ t) (omega arith))
+
+pub slot-made : (b : List ℕ) (at id n : ℕ) (p : Phase) → id ≡ number 2 .get (drop (at + 0) b) → p ≡ phaseOf (getD b (at + 2) 0) → n ≡ number 2 .get (drop (at + 4) b)
+    → _≡_ {A = Slot} (record { id = id; phase = p; databit = eqb (getD b (at + 3) 0) 1; length = n }) (slot .get (drop at b))
+slot-made b at id n p e f g =
+    let k : id ≡ number 2 .get (drop at b) = e ∙ ap (λ (m : ℕ). number 2 .get (drop m b)) (add-zero at) in
+    rw (k, f, g) (sym (slot-get b at))
+
+pub wrote-length : (w v : List ℕ) (i : ℕ) (s : List ℕ) → v ≡ write w i s → length v ≡ length w
+wrote-length w v i s e = ap length e ∙ length-write w i s
+
+pub two-set : (w : List ℕ) (i j x y : ℕ) → length (set (set w i x) j y) ≡ length w
+two-set w i j x y = length-set (set w i x) j y ∙ length-set w i x
+
+-- ---- the streams
+
+pub stream-at : (b : List ℕ) (i : ℕ) → i < 128 → eqb (getD b (streamsAt + i) 0) 1 ≡ getD (getAll flag 128 (drop streamsAt b)) i false
+stream-at b i h =
+    let e : streamsAt + i ≡ streamsAt + 1 * i = omega arith in
+    sym (getAll-at flag 128 i streamsAt b false h ∙ ap (λ (n : ℕ). eqb n 1) (byte-get b (streamsAt + 1 * i) ∙ ap (λ (k : ℕ). getD b k 0) (sym e)))
+
+pub stream-put : (b now : List ℕ) (l : List Bool) (i : ℕ) → i < length l → now ≡ putTo flag b streamsAt l i
+    → set now (streamsAt + i) (boolByte (getD l i false)) ≡ putTo flag b streamsAt l (i + 1)
+stream-put b now l i h e =
+    let k : streamsAt + i ≡ streamsAt + 1 * i = omega arith in
+    set-write now (streamsAt + i) (boolByte (getD l i false))
+    ∙ ap (λ (n : ℕ). write now n (boolByte (getD l i false) ∷ [])) k
+    ∙ put-more flag (λ x. refl) b streamsAt l now false i h e
+
+-- ---- a state: its four parts behind one another
+
+module _ (b : List ℕ) where
+  pub state-good : channel .good b ≡ (goodAll slot slotCount (drop slotsAt b) && goodAll flag streamCount (drop streamsAt b))
+  state-good =
+      both-good (number 1) (both (number 2) (both (many slot slotCount) (many flag streamCount))) b 0 pendingAt refl
+      ∙ both-good (number 2) (both (many slot slotCount) (many flag streamCount)) b pendingAt slotsAt refl
+      ∙ both-good (many slot slotCount) (many flag streamCount) b slotsAt streamsAt refl
+
+  pub state-get : stateOf b
+      ≡ record { dead = getD b 0 0; pending = number 2 .get (drop pendingAt b); slots = getAll slot slotCount (drop slotsAt b); streams = getAll flag streamCount (drop streamsAt b) }
+  unfolding stateOf
+  state-get =
+      let made : ℕ × (ℕ × (List Slot × List Bool)) → Channel = λ t. record { dead = t .0; pending = t .1 .0; slots = t .1 .1 .0; streams = t .1 .1 .1 } in
+      let d : ℕ = number 1 .get b in
+      let p : ℕ = number 2 .get (drop pendingAt b) in
+      ap made (both-get (number 1) (both (number 2) (both (many slot slotCount) (many flag streamCount))) b 0 pendingAt refl)
+      ∙ ap (λ (t : ℕ × (List Slot × List Bool)). made (d, t)) (both-get (number 2) (both (many slot slotCount) (many flag streamCount)) b pendingAt slotsAt refl)
+      ∙ ap (λ (t : List Slot × List Bool). made (d, (p, t))) (both-get (many slot slotCount) (many flag streamCount) b slotsAt streamsAt refl)
+      ∙ ap (λ (n : ℕ). made (n, (p, (getAll slot slotCount (drop slotsAt b), getAll flag streamCount (drop streamsAt b))))) (add-zero (getD b 0 0))
+
+  pub state-made : (n : ℕ) (slots : List Slot) (streams : List Bool)
+      → n ≡ number 2 .get (drop pendingAt b) → slots ≡ getAll slot slotCount (drop slotsAt b) → streams ≡ getAll flag streamCount (drop streamsAt b)
+      → _≡_ {A = Channel} (record { dead = getD b 0 0; pending = n; slots = slots; streams = streams }) (stateOf b)
+  state-made n slots streams e f g = rw (e, f, g) (sym state-get)
+
+  pub state-other : (length b ≡ stateLength → ⊥) → isState b ≡ false
+  unfolding isState
+  state-other h = rw (ne-eqb _ _ h)
+
+  pub state-same : length b ≡ stateLength → isState b ≡ (goodAll slot slotCount (drop slotsAt b) && goodAll flag streamCount (drop streamsAt b))
+  unfolding isState
+  state-same h = ap (λ (x : Bool). x && channel .good b) (eq-eqb _ _ h) ∙ state-good
+
+write-whole : (w s : List ℕ) → length w ≡ length s → write w 0 s ≡ s
+write-whole w s h = sym (take-all (length s) (write w 0 s) (omega (arith, length-write w 0 s))) ∙ take-front w s (omega arith)
+
+-- in the steps of the code
+pub state-put : (b c d e : List ℕ) (s : Channel) → c ≡ write (set b 0 (s .dead)) pendingAt (number 2 .put (s .pending))
+    → d ≡ write c slotsAt (putAll slot (s .slots)) → e ≡ write d streamsAt (putAll flag (s .streams))
+    → length b ≡ stateLength → s .dead < 256 → length (s .slots) ≡ slotCount → length (s .streams) ≡ streamCount → e ≡ encode s
+unfolding encode
+state-put b c d e s f g h k l m n =
+    let dead : s .dead ∷ [] ≡ number 1 .put (s .dead) = ap (λ (x : ℕ). x ∷ []) (sym (mod-eq-of-lt l)) in
+    let p : List ℕ = number 2 .put (s .pending) in
+    let slots : List ℕ = putAll slot (s .slots) in
+    let streams : List ℕ = putAll flag (s .streams) in
+    let x : length slots ≡ 6 * length (s .slots) = putAll-length slot (s .slots) (λ x. refl) in
+    let y : length streams ≡ 1 * length (s .streams) = putAll-length flag (s .streams) (λ x. refl) in
+    let z : length (p ++ (slots ++ streams)) ≡ 178 = omega (arith, length-append p (slots ++ streams), length-append slots streams) in
+    h
+    ∙ ap (λ (w : List ℕ). write w streamsAt streams) g
+    ∙ put-behind c slotsAt streamsAt slots streams (omega arith)
+    ∙ ap (λ (w : List ℕ). write w slotsAt (slots ++ streams)) f
+    ∙ put-behind (set b 0 (s .dead)) pendingAt slotsAt p (slots ++ streams) refl
+    ∙ ap (λ (w : List ℕ). write w pendingAt (p ++ (slots ++ streams))) (set-write b 0 (s .dead))
+    ∙ put-behind b 0 pendingAt (s .dead ∷ []) (p ++ (slots ++ streams)) refl
+    ∙ write-whole b ((s .dead ∷ []) ++ (p ++ (slots ++ streams))) (omega arith)
+    ∙ ap (λ (w : List ℕ). w ++ (p ++ (slots ++ streams))) dead

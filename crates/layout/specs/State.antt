@@ -1,0 +1,88 @@
+-- A channel's state in bytes: its dead number (1), its pending count (2), eight slots of id (2), phase (1), data bit (1) and length (2), and a
+-- byte for each of the 128 streams, 179 in all. Numbers are little-endian, as wide as rule 3 lets them grow; a phase has its code, a bool 1
+-- for true. These are definitions: they assume nothing.
+use Prim.Native.Nat.{ℕ}
+use mathlib.Core.Bool.{Bool, cond, _&&_}
+use mathlib.Core.List.{List, [], _∷_}
+use mathlib.Core.Option.{Option, some, none}
+use lib.ListN.{length, getD}
+use lib.Dec.{eqb}
+use mir.Val.{boolByte}
+use Rattle.frame.specs.Limits.{slotCount, streamCount}
+use Rattle.requests.specs.declared.Phase.{Phase}
+use Rattle.requests.specs.declared.Phase.the-variants.{Free, Collecting, Waiting, Running}
+use Rattle.requests.specs.declared.Slot.{Slot}
+use Rattle.requests.specs.Phases.{code}
+use Rattle.channel.specs.declared.Channel.{Channel}
+use Rattle.channel.specs.Receiver.{freshState}
+use Rattle.layout.specs.Fields.{Field, number, choice, both, many, standing}
+
+-- ---- the fields
+
+abbrev pub flag : Field Bool
+flag = choice 2 boolByte (λ n. eqb n 1)
+
+-- the phases in the order of their codes
+unfoldable pub phaseOf : ℕ → Phase
+phaseOf n = getD (Free ∷ Collecting ∷ Waiting ∷ Running ∷ []) n Free
+
+abbrev pub phaseCount : ℕ
+phaseCount = 4
+
+abbrev pub phase : Field Phase
+phase = choice phaseCount code phaseOf
+
+abbrev pub slot : Field Slot
+slot =
+    standing
+    (both (number 2)
+    (both phase
+    (both flag
+    (number 2))))
+    (λ x. (x .id, (x .phase, (x .databit, x .length))))
+    (λ t. record { id = t .0; phase = t .1 .0; databit = t .1 .1 .0; length = t .1 .1 .1 })
+
+abbrev pub channel : Field Channel
+channel =
+    standing
+    (both (number 1)
+    (both (number 2)
+    (both (many slot slotCount)
+    (many flag streamCount))))
+    (λ s. (s .dead, (s .pending, (s .slots, s .streams))))
+    (λ t. record { dead = t .0; pending = t .1 .0; slots = t .1 .1 .0; streams = t .1 .1 .1 })
+
+-- ---- where the fields stand, and the length of all
+
+abbrev pub pendingAt : ℕ
+pendingAt = 1
+
+abbrev pub slotsAt : ℕ
+slotsAt = 3
+
+abbrev pub streamsAt : ℕ
+streamsAt = 51
+
+abbrev pub stateLength : ℕ
+stateLength = 179
+
+-- ---- a state to bytes, and bytes to a state
+
+unfoldable pub encode : Channel → List ℕ
+encode s = channel .put s
+
+unfoldable pub isState : List ℕ → Bool
+isState b = eqb (length b) stateLength && channel .good b
+
+unfoldable pub stateOf : List ℕ → Channel
+stateOf b = channel .get b
+
+unfoldable pub decode : List ℕ → Option Channel
+decode b = cond (isState b) (some (stateOf b)) none
+
+-- what the code answers for bytes of any length
+unfoldable pub stateFrom : List ℕ → Channel
+stateFrom b = cond (eqb (length b) stateLength) (stateOf b) freshState
+
+unfoldable pub stateInto : List ℕ → Channel → List ℕ
+stateInto b s = cond (eqb (length b) stateLength) (encode s) b
