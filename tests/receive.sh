@@ -2,11 +2,12 @@
 
 # Runs receive with the arguments behind $1, and holds what it writes to $1.
 receives() {
-    local wanted=$1 text
+    local wanted=$1 text words
     shift
+    words=$*
     text=$("$receive" "$@" 2>&1 </dev/null) || { echo "receive ended with $?: $*"; return 1; }
     [ "$text" = "$wanted" ] || {
-        printf 'receive wrote\n%s\nand not\n%s\nof: %s\n' "$text" "$wanted" "${*:0:200}"
+        printf 'receive wrote\n%s\nand not\n%s\nof: %s\n' "$text" "$wanted" "${words:0:200}"
         return 1
     }
 }

@@ -46,7 +46,7 @@ fn put_content(bytes: &[u8], out: &mut Text, at: usize) -> usize {
     text::put_hex(bytes, out, a)
 }
 
-// Whether each byte can stand in quotes as it is. No bytes can.
+// Whether each byte can stand in quotes as it is, which holds where there is none.
 fn is_text(bytes: &[u8]) -> bool {
     let mut i: usize = 0;
     while i < bytes.len() {
@@ -111,7 +111,7 @@ fn innermost(walk: Walk) -> Open
     row[i]
 }
 
-// The walk behind an item, with one item less left.
+// The walk behind an item, of a container that has one left: then it has one less.
 fn passed(walk: Walk, next: usize, end: usize) -> Walk
     requires { ⌜ (0 < walk .depth) × (walk .depth ≤ 8) ⌝ }
     ensures { λ r. ⌜ (r .at ≡ next) × (r .depth ≡ walk .depth) ⌝ }
@@ -122,7 +122,7 @@ fn passed(walk: Walk, next: usize, end: usize) -> Walk
     let kind = top.kind;
     row[i] = Open {
         kind,
-        left: one_less(top.left),
+        left: std::num::wrapping_sub_u64(top.left, 1),
     };
     Walk {
         at: next,
@@ -159,7 +159,7 @@ fn close(walk: Walk, top: Open, out: &mut Text) -> Walk
 {
     let kind = top.kind;
     let mut outer = walk;
-    outer.end = put_end(kind, out, walk.end);
+    outer.end = put_sign(end_of(kind), out, walk.end);
     outer.depth = walk.depth - 1;
     separate(outer, out)
 }
@@ -174,7 +174,7 @@ fn separate(walk: Walk, out: &mut Text) -> Walk
     }
     let top = innermost(walk);
     let mut next = walk;
-    next.end = put_separator(top, out, walk.end);
+    next.end = put_sign(separator(top), out, walk.end);
     next
 }
 
@@ -198,36 +198,48 @@ fn opening(kind: Kind, count: u64) -> Open {
     }
 }
 
-fn one_less(n: u64) -> u64 {
-    if n == 0 { 0 } else { n - 1 }
-}
-
-// A scalar, or the start of a container. The item stands at `at`.
+// A scalar, or the start of a container; nothing for what is refused. The item stands at `at`.
 fn put_item(s: &[u8], at: usize, x: Item, out: &mut Text, end: usize) -> usize {
     match x {
         Item::Unsigned(n, _) => text::put_decimal(n, out, end),
         Item::Negative(n, _) => text::put_negative(n, out, end),
         Item::Bytes(start, stop) => put_bytes(keys::part(s, start, stop), out, end),
-        _ => put_mark(x, frame::byte_at(s, at), out, end),
+        _ => put_sign(start_of(x, frame::byte_at(s, at)), out, end),
     }
 }
 
-// A simple value, or the start of a container; nothing for what is refused. The item's first byte is `b`.
-fn put_mark(x: Item, b: u8, out: &mut Text, at: usize) -> usize {
-    words::put_row(b"false\ntrue\nnull\n[\n{\n258([\n", mark_row(x, b), out, at)
+// A fixed part of the notation, by its row; nothing behind the last one.
+fn put_sign(row: usize, out: &mut Text, at: usize) -> usize {
+    words::put_row(
+        b"false\n\
+          true\n\
+          null\n\
+          [\n\
+          258([\n\
+          {\n\
+          ]\n\
+          ])\n\
+          }\n\
+          , \n\
+          : \n",
+        row,
+        out,
+        at,
+    )
 }
 
-fn mark_row(x: Item, b: u8) -> usize {
+// The row of a simple value, whose byte is `b`, or of a container's start.
+fn start_of(x: Item, b: u8) -> usize {
     match x {
-        Item::Simple(_) => simple_row(b),
+        Item::Simple(_) => simple(b),
         Item::Array(_, _) => 3,
-        Item::Map(_, _) => 4,
-        Item::Set(_, _) => 5,
-        _ => 6,
+        Item::Set(_, _) => 4,
+        Item::Map(_, _) => 5,
+        _ => 11,
     }
 }
 
-fn simple_row(b: u8) -> usize {
+fn simple(b: u8) -> usize {
     match b {
         0xf4 => 0,
         0xf5 => 1,
@@ -235,32 +247,24 @@ fn simple_row(b: u8) -> usize {
     }
 }
 
-// The end of a container.
-fn put_end(kind: Kind, out: &mut Text, at: usize) -> usize {
-    words::put_row(b"]\n])\n}\n", end_row(kind), out, at)
-}
-
-fn end_row(kind: Kind) -> usize {
+// The row of a container's end.
+fn end_of(kind: Kind) -> usize {
     match kind {
-        Kind::Array => 0,
-        Kind::Set => 1,
-        Kind::Map => 2,
+        Kind::Array => 6,
+        Kind::Set => 7,
+        Kind::Map => 8,
     }
 }
 
-// What stands before the next item of a container, where one is left.
-fn put_separator(open: Open, out: &mut Text, at: usize) -> usize {
+// The row of what stands before the next item of a container, where one is left. Before a map's value that is a colon: with it an odd
+// number of items is left.
+fn separator(open: Open) -> usize {
     if open.left == 0 {
-        return at;
+        return 11;
     }
-    text::put(&[separator(open), b' '], out, at)
-}
-
-// A colon before a map's value: with it an odd number of items is left.
-fn separator(open: Open) -> u8 {
     let kind = open.kind;
     match kind {
-        Kind::Map => { if open.left % 2 == 1 { b':' } else { b',' } }
-        _ => b',',
+        Kind::Map => 9 + (open.left % 2) as usize,
+        _ => 9,
     }
 }

@@ -12,12 +12,11 @@ pub(crate) type Text = [u8; 24576];
 pub(crate) fn put_record(record: &[u8], out: &mut Text) -> usize {
     let head = records::read_head(record);
     let content = records::content(record);
-    let mut end: usize = 0;
-    if head.kind == 1 {
-        end = put_command(head, content, out);
+    let end = if head.kind == 1 {
+        put_command(head, content, out)
     } else {
-        end = put_data(head, content, out);
-    }
+        put_data(head, content, out)
+    };
     text::put(b"\n", out, end)
 }
 

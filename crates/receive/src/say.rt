@@ -49,14 +49,12 @@ pub(crate) fn say_unread(name: &[u8], error: i32) {
         return;
     }
     say(name);
-    say(b": cannot be read: ");
     words::say_reason(error);
 }
 
 // The same of an argument that is no name: it is empty, or longer than a path.
 pub(crate) fn say_nameless(i: usize, error: i32) {
     say_counted(b"argument ", i as u64);
-    say(b": cannot be read: ");
     words::say_reason(error);
 }
 
@@ -69,7 +67,15 @@ pub(crate) fn say_unknown(option: &[u8]) {
 // Writes what the program does.
 pub(crate) fn say_help() {
     say(
-        b"receive [FILE]..\n\nReads captures of the line, the bytes that clients sent, and writes a line for each record that the channel makes of them.\nEach FILE is a channel of its own, and of several the name stands before the lines; - is standard input, and so is no FILE.\n\n  command 3 data 0 name 'set' args {'magnet': 4, 'on': true}\n  data 1 last 0 4 bytes 'slow'\n  refused 24 at byte 71: whole command isn't one CBOR item of the subset\n",
+        b"receive [FILE]..\n\
+          \n\
+          Reads captures of the line, the bytes that clients sent, and writes a line for each record that the channel makes of them.\n\
+          Each FILE is a channel of its own, and of several the name stands before the lines; - is standard input, and so is no FILE.\n\
+          Lines look like these:\n\
+          \n\
+          command 3 data 0 name 'set' args {'magnet': 4, 'on': true}\n\
+          data 1 last 0 4 bytes 'slow'\n\
+          refused 24 at byte 71: whole command isn't one CBOR item of the subset\n",
     );
 }
 

@@ -37,8 +37,9 @@ fn refusal_row(number: u8) -> usize {
     }
 }
 
-// Writes why an input cannot be read, by errno's number, and a line end.
+// Writes, behind a name, that it cannot be read and why, by errno's number, and a line end.
 pub(crate) fn say_reason(error: i32) {
+    say::say(b": cannot be read: ");
     say_row(
         b"the name is empty\n\
           the name is too long\n\
