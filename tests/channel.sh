@@ -21,7 +21,7 @@ archive_program tests/states.rs "$out/states" "$out"
 for copy in "${wrong_states[@]}"; do
     build_lines "$copy"
     archive_program tests/states.rs "$copy/states" "$copy"
-    must_fail '^states: ' "$copy/states" 6 1 2000
+    must_fail '^states: .*\(feed\|finish\) ' "$copy/states" 6 1 2000
 done
 
 # The header, from C and from C++.

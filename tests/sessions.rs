@@ -2,7 +2,7 @@
 //!
 //!     sessions make SEED COUNT      prints the lines of COUNT sessions
 //!     sessions check SEED COUNT     runs them in the second receiver and holds each against the uncut reading
-//!     sessions traces               the papers' traces, through the lines
+//!     sessions traces [PROGRAM]     the papers' traces, through the lines, by the second receiver or by PROGRAM
 //!     sessions commands SEED COUNT  prints the lines of the calls on COUNT commands
 //!
 //! `check` also counts what the sessions meet, and fails if one of the
@@ -83,9 +83,10 @@ fn main() -> Result<()> {
     match words[..] {
         ["make", seed, count] => make(number(seed), number(count))?,
         ["check", seed, count] => check(number(seed), number(count)),
-        ["traces"] => traces::run(),
+        ["traces"] => traces::run(None)?,
+        ["traces", program] => traces::run(Some(program))?,
         ["commands", seed, count] => commands(number(seed), number(count))?,
-        _ => fail("make SEED COUNT, check SEED COUNT, traces or commands SEED COUNT"),
+        _ => fail("make SEED COUNT, check SEED COUNT, traces [PROGRAM] or commands SEED COUNT"),
     }
     Ok(())
 }

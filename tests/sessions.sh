@@ -6,6 +6,10 @@
 "$out/second_replay" <tests/replay_lines/requests.txt | cmp - tests/replay_lines/answers.txt
 (cd / && "$OLDPWD/tests/replay") <tests/replay_lines/requests.txt | cmp - tests/replay_lines/answers.txt
 
+# The papers' traces.
+"$out/sessions" traces "$out/replay"
+must_fail 'T3: state' "$out/sessions" traces "${wrong_receivers[0]}/second_replay"
+
 # Has the lines of file $1 answered by `replay` and by the second program $2, and
 # compares the answers. Adds their count to `answered`.
 compare_lines() {

@@ -1,27 +1,42 @@
 //! The papers' traces, as lines and their answers.
 
 use second::replay::Replay;
+use std::io::{Result, Write};
+use std::process::{Command, Stdio};
 
 /// T1's command, and a header for it without its last byte.
 const COMMAND: &str = "a2446e616d65437365744461726773a0";
 const HEADER: &str = "10000001000101";
 const FREE: &str = "0:f:0:0";
 
-struct Trace {
-    name: &'static str,
-    replay: Replay,
+/// A line of a trace, and its answer.
+struct Asked {
+    trace: &'static str,
+    line: String,
+    answer: String,
 }
 
-impl Trace {
-    fn new(name: &'static str) -> Trace {
-        let replay = Replay::default();
-        Trace { name, replay }
+type Table = Vec<Asked>;
+
+/// A trace on a fresh channel, which is added to a table.
+struct Trace<'t> {
+    name: &'static str,
+    table: &'t mut Table,
+}
+
+impl<'t> Trace<'t> {
+    fn new(table: &'t mut Table, name: &'static str) -> Trace<'t> {
+        let mut trace = Trace { name, table };
+        trace.ask("fresh 20488", "fresh");
+        trace
     }
 
-    fn ask(&mut self, line: &str, expected: &str) {
-        let answer = self.replay.answer(line.as_bytes());
-        let name = self.name;
-        assert_eq!(answer.as_deref(), Some(expected), "{name}: {line}");
+    fn ask(&mut self, line: &str, answer: &str) {
+        self.table.push(Asked {
+            trace: self.name,
+            line: line.to_string(),
+            answer: answer.to_string(),
+        });
     }
 
     /// Feeds bytes that are all taken.
@@ -34,20 +49,56 @@ impl Trace {
     }
 }
 
-pub fn run() {
-    single_frames();
-    lengths();
-    ninth_request();
-    longest_command();
-    finish_of_collecting();
-    command_bytes();
-    without_args();
-    println!("sessions: T1 to T12 and E1 as in the papers");
+/// The lines are answered by a program that reads them from its standard
+/// input, or by the second implementation.
+pub fn run(program: Option<&str>) -> Result<()> {
+    let table = &mut Table::new();
+    single_frames(table);
+    lengths(table);
+    ninth_request(table);
+    longest_command(table);
+    finish_of_collecting(table);
+    command_bytes(table);
+    without_args(table);
+    let answers = match program {
+        Some(program) => program_answers(program, table)?,
+        None => second_answers(table),
+    };
+    assert_eq!(answers.len(), table.len(), "each line has its answer");
+    for (asked, answer) in table.iter().zip(&answers) {
+        assert_eq!(*answer, asked.answer, "{}: {}", asked.trace, asked.line);
+    }
+    let who = program.unwrap_or("the second implementation");
+    println!("sessions: T1 to T12 and E1 as in the papers, by {who}");
+    Ok(())
+}
+
+fn second_answers(table: &Table) -> Vec<String> {
+    let mut replay = Replay::default();
+    let answers = table
+        .iter()
+        .map(|asked| replay.answer(asked.line.as_bytes()));
+    answers.flatten().collect()
+}
+
+fn program_answers(program: &str, table: &Table) -> Result<Vec<String>> {
+    let mut child = Command::new(program)
+        .stdin(Stdio::piped())
+        .stdout(Stdio::piped())
+        .spawn()?;
+    let mut input = child.stdin.take().expect("a pipe was asked for");
+    for asked in table {
+        writeln!(input, "{}", asked.line)?;
+    }
+    drop(input);
+    let output = child.wait_with_output()?;
+    let text = String::from_utf8_lossy(&output.stdout);
+    Ok(text.lines().map(String::from).collect())
 }
 
 /// T1, T2, T3, T5 and T10.
-fn single_frames() {
-    let mut t1 = Trace::new("T1");
+fn single_frames(table: &mut Table) {
+    let mut t1 = Trace::new(table, "T1");
     t1.feed(
         &format!("{HEADER}11{COMMAND}"),
         0,
@@ -57,40 +108,40 @@ fn single_frames() {
     t1.ask("state", &format!("state 0 0 1:r:0:0 {rest} 1"));
     t1.ask("work 4104 4120", &format!("work {COMMAND}"));
 
-    let mut t2 = Trace::new("T2");
+    let mut t2 = Trace::new(table, "T2");
     t2.feed("0900000100010192486964656e74697479", 0, "");
     let free = [FREE; 8].join(" ");
     t2.ask("state", &format!("state 0 0 {free} 1"));
 
-    let mut t3 = Trace::new("T3");
+    let mut t3 = Trace::new(table, "T3");
     t3.ask(&format!("set 0 0 1:w:1:0 {rest} 1"), "set");
     t3.feed("02000001000100226869", 0, "050002000100016869");
     t3.ask("state", &format!("state 0 0 1:r:1:0 {rest} 1"));
 
-    let mut t5 = Trace::new("T5");
+    let mut t5 = Trace::new(table, "T5");
     t5.feed(&format!("{HEADER}13{COMMAND}"), 18, "");
     t5.ask("state", &format!("state 18 0 {free} -"));
 
-    let mut t10 = Trace::new("T10");
+    let mut t10 = Trace::new(table, "T10");
     t10.feed("0000000100010111", 24, "");
     t10.ask("state", &format!("state 24 0 {free} -"));
 }
 
 /// T4. The refused call ends on the eighth byte, whatever follows.
-fn lengths() {
+fn lengths(table: &mut Table) {
     let free = [FREE; 8].join(" ");
-    let mut allowed = Trace::new("T4");
+    let mut allowed = Trace::new(table, "T4");
     allowed.feed("0010000100010111", 0, "");
     allowed.ask("state", &format!("state 0 8 {free} -"));
-    let mut refused = Trace::new("T4");
+    let mut refused = Trace::new(table, "T4");
     refused.ask("feed 5000 0110000100010111a2", "fed 11 8 0 -");
     refused.ask("state", &format!("state 11 0 {free} -"));
 }
 
 /// T6: T1's request, then seven that are collecting, then a ninth.
-fn ninth_request() {
+fn ninth_request(table: &mut Table) {
     for finished in [false, true] {
-        let mut t6 = Trace::new("T6");
+        let mut t6 = Trace::new(table, "T6");
         t6.feed(
             &format!("{HEADER}11{COMMAND}"),
             0,
@@ -109,30 +160,30 @@ fn ninth_request() {
 
 /// T7, in one frame and in two. The argument is a byte string that fills
 /// the command up to its length.
-fn longest_command() {
+fn longest_command(table: &mut Table) {
     let command = |length: usize| {
         let filler = length - 21;
         let bytes = "5a".repeat(filler);
         format!("a2446e616d65437365744461726773a1416b59{filler:04x}{bytes}")
     };
     let record = format!("03080100010000{}", command(2048));
-    let mut one = Trace::new("T7");
+    let mut one = Trace::new(table, "T7");
     one.feed(&format!("0008000100010111{}", command(2048)), 0, &record);
-    let mut one = Trace::new("T7");
+    let mut one = Trace::new(table, "T7");
     one.feed(&format!("0108000100010111{}", command(2049)), 23, "");
 
     let (long, over) = (command(2048), command(2049));
-    let mut two = Trace::new("T7");
+    let mut two = Trace::new(table, "T7");
     two.feed(&format!("0004000100010115{}", &long[..2048]), 0, "");
     two.feed(&format!("0004000100010012{}", &long[2048..]), 0, &record);
-    let mut two = Trace::new("T7");
+    let mut two = Trace::new(table, "T7");
     two.feed(&format!("0004000100010115{}", &over[..2048]), 0, "");
     two.feed(&format!("0104000100010012{}", &over[2048..]), 23, "");
 }
 
 /// T12.
-fn finish_of_collecting() {
-    let mut t12 = Trace::new("T12");
+fn finish_of_collecting(table: &mut Table) {
+    let mut t12 = Trace::new(table, "T12");
     t12.feed("0000000100010115", 0, "");
     t12.ask("finish 1", "finished 4");
     let rest = [FREE; 7].join(" ");
@@ -140,29 +191,29 @@ fn finish_of_collecting() {
 }
 
 /// T8 to T11, each as the argument `k`.
-fn command_bytes() {
+fn command_bytes(table: &mut Table) {
     let with = |item: &str| format!("a2446e616d65437365744461726773a1416b{item}");
-    let table = [
+    let cases = [
         ("T8", "3b7fffffffffffffff", "0 -9223372036854775808"),
         ("T8", "3b8000000000000000", "8 0"),
         ("T9", "20", "0 -1"),
         ("T11", "818181818180", "7 0"),
         ("T11", "81818181818180", "24 0"),
     ];
-    for (name, item, answer) in table {
-        let mut trace = Trace::new(name);
+    for (name, item, answer) in cases {
+        let mut trace = Trace::new(table, name);
         let line = format!("int {} 6b", with(item));
         trace.ask(&line, &format!("integer {answer}"));
     }
-    Trace::new("T10").ask("check -", "checked 24");
+    Trace::new(table, "T10").ask("check -", "checked 24");
 }
 
 /// E1: a command of the name `off` alone, and with `redirect`; then no name,
 /// and an `args` that is an array.
-fn without_args() {
+fn without_args(table: &mut Table) {
     let name = "446e616d65436f6666";
     let alone = format!("a1{name}");
-    let mut e1 = Trace::new("E1");
+    let mut e1 = Trace::new(table, "E1");
     let record = format!("0d000100010000{alone}");
     e1.feed(&format!("0a00000100010111{alone}"), 0, &record);
     for command in [alone, format!("a2{name}487265646972656374a0")] {

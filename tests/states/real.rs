@@ -36,41 +36,48 @@ fn has(state: &State, phase: Phase) -> bool {
     state.slots.iter().any(|slot| slot.phase == phase)
 }
 
-/// As many states of each kind, all different. An error names a kind that the
-/// sessions do not have.
+/// The states found so far, by their kind.
+type Found = BTreeMap<&'static str, Vec<Real>>;
+
+/// Keeps a state under each of its kinds that has not enough yet.
+fn keep(found: &mut Found, each: usize, state: &[u8], work: &[u8]) {
+    let Some(read) = bytes::read(state).filter(|read| plain_ways(read).is_empty()) else {
+        return;
+    };
+    for (kind, is) in KINDS {
+        let of_kind = found.entry(kind).or_default();
+        let known = of_kind.iter().any(|real| real.state == state);
+        if of_kind.len() < each && !known && is(&read) {
+            of_kind.push(Real {
+                kind,
+                state: state.to_vec(),
+                work: work.to_vec(),
+            });
+        }
+    }
+}
+
+/// As many states of each kind, all different; there is but one fresh one. An
+/// error names a kind of which the sessions have too few.
 pub fn real_states(seed: u64, each: usize) -> Result<Vec<Real>, String> {
     let mut driver = Driver::new(Edge::None);
-    let mut found: BTreeMap<&str, Vec<Real>> = BTreeMap::new();
+    let mut found = Found::new();
     for index in 0..2_000 {
         for line in generate::session(seed, index) {
             if line == "state" {
                 continue;
             }
             driver.answer(line.as_bytes());
-            if driver.work().len() < WORK {
-                continue;
-            }
-            let state = driver.state();
-            let Some(read) = bytes::read(state).filter(|read| plain_ways(read).is_empty()) else {
-                continue;
-            };
-            for (kind, is) in KINDS {
-                let of_kind = found.entry(kind).or_default();
-                let one = kind == "fresh" && of_kind.len() == 1;
-                let known = of_kind.iter().any(|real| real.state == state);
-                if of_kind.len() < each && !one && !known && is(&read) {
-                    of_kind.push(Real {
-                        kind,
-                        state: state.to_vec(),
-                        work: driver.work()[..WORK].to_vec(),
-                    });
-                }
+            if let Some(work) = driver.work().get(..WORK) {
+                keep(&mut found, each, driver.state(), work);
             }
         }
     }
-    for (kind, states) in &found {
-        if states.len() < each && *kind != "fresh" || states.is_empty() {
-            return Err(format!("only {} states are {kind}", states.len()));
+    for (kind, _) in KINDS {
+        let wanted = if kind == "fresh" { 1 } else { each };
+        let count = found.get(kind).map_or(0, Vec::len);
+        if count < wanted {
+            return Err(format!("only {count} states are {kind}"));
         }
     }
     Ok(found.into_values().flatten().collect())
