@@ -1,6 +1,7 @@
 /* The receiving side of one hgrpc channel, for C99 and C++: bytes of the line
  * go in, records come out. The calls are those of the archive libhgrpc.a,
- * which is for x86-64 Linux, as the kit's compiler is.
+ * which is for x86-64 Linux, as the kit's compiler is, and needs memcpy and
+ * memset of its surroundings and nothing else.
  *
  * The caller lends every buffer. A buffer is a pointer, which is not NULL also
  * where the length is 0, and a length; the buffers of one call lie apart from

@@ -65,6 +65,13 @@ while IFS='|' read -r _ number words _; do
 done < <(grep -E '^\| [0-9]+ \| ' docs/RULES.md)
 [ "$meanings" -eq 27 ] || { echo "the rules have $meanings numbers"; exit 1; }
 
+# The archive has these calls and no others, and needs no more than this.
+calls=$(nm -g --defined-only "$archive" | awk '$2 == "T" { print $3 }' | sort | tr '\n' ' ')
+wanted="hgrpc_argument hgrpc_check hgrpc_feed hgrpc_finish hgrpc_fresh hgrpc_integer hgrpc_name "
+needs=$(nm -u "$archive" | awk '$1 == "U" { print $2 }' | sort | tr '\n' ' ')
+[ "$calls" = "$wanted" ] || { echo "the archive has the calls $calls"; exit 1; }
+[ "$needs" = "memcpy memset " ] || { echo "the archive needs $needs"; exit 1; }
+
 # The board, built and run by the README's own lines, and with the sanitizers.
 section=$(sed -n "/^## A board's main loop in C$/,/^## Call/p" README.md)
 block() { awk -v wanted="$1" '/^```/ { n++; next } n == 2 * wanted - 1' <<<"$section"; }

@@ -2,35 +2,23 @@
 //! same bytes.
 
 use crate::fail;
-use second::replay::from_hex;
+use second::capture::{walk, End, Record};
+use second::command;
 use std::fs;
 use std::io::{Result, Write};
 use std::process::{Command, Stdio};
 
-/// What the board prints of one of the second implementation's lines. None of
-/// the end inside a frame, of which it prints nothing.
-fn printed(line: &str) -> Option<Vec<u8>> {
-    let words: Vec<&str> = line.split(' ').collect();
-    match words[..] {
-        ["command", request, "data", bit, "name", name, ..] => {
-            let hex = name.strip_prefix("h'")?.strip_suffix("'")?;
-            let mut text = format!("command {request}: ").into_bytes();
-            text.extend(from_hex(hex)?);
-            text.extend(if bit == "1" {
-                &b", data follows\n"[..]
-            } else {
-                b"\n"
-            });
-            Some(text)
-        }
-        ["data", request, "last", bit, count, "bytes", _] => {
-            let last = if bit == "1" { ", the last" } else { "" };
-            Some(format!("data {request}: {count} bytes{last}\n").into_bytes())
-        }
-        ["refused", number, ..] => {
-            Some(format!("refused {number}: the channel is dead\n").into_bytes())
-        }
-        _ => None,
+/// What the board prints of a record.
+fn printed(record: &Record) -> Vec<u8> {
+    let (request, bit) = (record.request, record.bit == 1);
+    if record.is_command {
+        let mut text = format!("command {request}: ").into_bytes();
+        text.extend(command::name(record.content));
+        text.extend(if bit { &b", data follows\n"[..] } else { b"\n" });
+        text
+    } else {
+        let last = if bit { ", the last" } else { "" };
+        format!("data {request}: {} bytes{last}\n", record.content.len()).into_bytes()
     }
 }
 
@@ -50,9 +38,12 @@ fn run(program: &str, capture: &[u8]) -> Result<(Vec<u8>, Option<i32>)> {
 
 /// Whether the board refused the capture.
 fn compare(program: &str, capture: &[u8], name: &str) -> Result<bool> {
-    let lines = second::capture::lines(capture, |_| String::new());
-    let refused = lines.contains("refused ");
-    let wanted: Vec<u8> = lines.lines().filter_map(printed).flatten().collect();
+    let mut wanted = Vec::new();
+    let end = walk(capture, |record| wanted.extend(printed(record)));
+    let refused = matches!(end, End::Refused { .. });
+    if let End::Refused { number, .. } = end {
+        wanted.extend(format!("refused {number}: the channel is dead\n").into_bytes());
+    }
     let (text, status) = run(program, capture)?;
     if text != wanted || status != Some(refused.into()) {
         let [text, wanted] = [text, wanted].map(|text| String::from_utf8_lossy(&text).into_owned());

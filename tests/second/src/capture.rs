@@ -9,35 +9,62 @@ use crate::value::{read_whole, Value};
 
 /// The lines of a capture. `words` says what a refusal number means.
 pub fn lines(capture: &[u8], words: impl Fn(u8) -> String) -> String {
-    let mut receiver = Receiver::start(State::fresh(), vec![0; WORK]);
     let mut text = String::new();
+    let end = walk(capture, |record| text += &record.line());
+    match end {
+        End::Refused { number, place } => {
+            text + &format!("refused {number} at byte {place}: {}\n", words(number))
+        }
+        End::Inside(pending) => {
+            text + &format!("the input ends inside a frame, after {pending} of its bytes\n")
+        }
+        End::Between => text,
+    }
+}
+
+/// How a capture ends.
+#[derive(Clone, Copy, Debug, PartialEq, Eq)]
+pub enum End {
+    Refused {
+        number: u8,
+        place: usize,
+    },
+    /// Inside a frame, after so many of its bytes.
+    Inside(u64),
+    /// Between two frames.
+    Between,
+}
+
+/// The records of a capture, one after another. A request that runs is
+/// finished at once.
+pub fn walk(capture: &[u8], mut each: impl FnMut(&Record)) -> End {
+    let mut receiver = Receiver::start(State::fresh(), vec![0; WORK]);
     for (place, byte) in capture.iter().enumerate() {
         let mut output = [0; RECORD];
         let fed = receiver.feed(&[*byte], &mut output);
         if fed.number != 0 {
-            let (number, meaning) = (fed.number, words(fed.number));
-            return text + &format!("refused {number} at byte {place}: {meaning}\n");
+            let number = fed.number;
+            return End::Refused { number, place };
         }
         if fed.written > 0 {
             let record = Record::read(&output[..fed.written]);
-            text += &record.line();
+            each(&record);
             if record.is_last() {
                 assert_eq!(receiver.finish(record.request), 0, "the request runs");
             }
         }
     }
-    let pending = receiver.state().pending;
-    if pending > 0 {
-        text += &format!("the input ends inside a frame, after {pending} of its bytes\n");
+    match receiver.state().pending {
+        0 => End::Between,
+        pending => End::Inside(pending),
     }
-    text
 }
 
-struct Record<'r> {
-    is_command: bool,
-    request: u16,
-    bit: u8,
-    content: &'r [u8],
+pub struct Record<'r> {
+    pub is_command: bool,
+    pub request: u16,
+    pub bit: u8,
+    pub content: &'r [u8],
 }
 
 impl<'r> Record<'r> {
