@@ -208,10 +208,10 @@ static void cut_records(void)
 {
     size_t one = sizeof RECORD - 1, count;
     for (count = 0; count <= 2 * one; count++) {
-        uint8_t *out = (uint8_t *)malloc(count + 1);
-        uint8_t *exact = (uint8_t *)realloc(out, count ? count : 1);
+        uint8_t *exact = (uint8_t *)malloc(count ? count : 1);
         hgrpc_record record;
         size_t place = 0, i, found = 0;
+        IS(exact != NULL, 1);
         for (i = 0; i < count; i++)
             exact[i] = (uint8_t)RECORD[i % one];
         while (hgrpc_next_record(exact, count, &place, &record)) {
