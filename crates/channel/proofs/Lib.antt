@@ -4,8 +4,8 @@ pub mod SlotLaws
 pub mod ReceiverLaws
 pub mod JudgeLaws
 mod Finish
-pub mod FrameLaws
-pub mod QuietLaws
-pub mod ByteLaws
-pub mod PieceLaws
-pub mod LoopLaws
+mod FrameLaws
+mod QuietLaws
+mod ByteLaws
+mod PieceLaws
+mod LoopLaws

@@ -93,12 +93,12 @@ unfoldable pub argumentAnswer : List ℕ → List ℕ → Part
 argumentAnswer s key = placePart (argumentAt s key)
 
 -- a number, and an integer: 0 if refused
-pub record Whole : Type 0 where
+pub record Integer : Type 0 where
   pub number : ℕ
   pub value : ℤ
 
-abbrev pub whole : ℕ → ℤ → Whole
-whole n z = record { number = n; value = z }
+abbrev pub integer : ℕ → ℤ → Integer
+integer n z = record { number = n; value = z }
 
-unfoldable pub integerAnswer : List ℕ → List ℕ → Whole
-integerAnswer s key = let x = integerAt s key in whole (numberNumber x) (numberValue x)
+unfoldable pub integerAnswer : List ℕ → List ℕ → Integer
+integerAnswer s key = let x = integerAt s key in integer (numberNumber x) (numberValue x)

@@ -5,7 +5,7 @@ use command_map::Checked;
 ghost use mathlib.Core.Path.{_≡_};
 ghost use Prim.Native.Nat.{_-_};
 ghost use Rattle.command.specs.Command.{checked, numberOf};
-ghost use Rattle.hgrpc.specs.Calls.{part, whole, nameAnswer, argumentAnswer, integerAnswer};
+ghost use Rattle.hgrpc.specs.Calls.{part, integer, nameAnswer, argumentAnswer, integerAnswer};
 
 // The check of a command's bytes: 0, 24, 25 or 26.
 #[no_mangle]
@@ -73,7 +73,7 @@ pub extern "C" fn hgrpc_argument(
 // An argument as an integer: 0, or the check's number, then 6, 7 or 8, and 0.
 #[no_mangle]
 pub extern "C" fn hgrpc_integer(command: &[u8], key: &[u8], value: &mut i64) -> u32
-    ensures { λ r. ⌜ whole r (now (value .exit)) ≡ integerAnswer (now (command .entry)) (now (key .entry)) ⌝ }
+    ensures { λ r. ⌜ integer r (now (value .exit)) ≡ integerAnswer (now (command .entry)) (now (key .entry)) ⌝ }
 {
     *value = 0;
     let x = command::integer_at(command, key);

@@ -4,7 +4,7 @@ use mathlib.Core.Path.{_≡_, ap}
 use mir.Val.{toZ, ofZ}
 use mir.Syntax.{w64}
 use borrow.Author.Needs.{needs}
-use Rattle.hgrpc.specs.Calls.{whole, integerAnswer}
+use Rattle.hgrpc.specs.Calls.{integer, integerAnswer}
 use Rattle.hgrpc.proofs.commands.hgrpc_integer.Statement.{statement}
 use Rattle.hgrpc.proofs.commands.hgrpc_integer.Tie as tie
 
@@ -13,7 +13,7 @@ unfolding integerAnswer
 returns c =
     let z = c .before .x .given .0 .0 in
     let e : toZ w64 (ofZ w64 z) ≡ z = search needs in
-    rw (← c .before .before .before .integer-at .ensures, c .before .x .given .1) (ap (whole 0) e)
+    rw (← c .before .before .before .integer-at .ensures, c .before .x .given .1) (ap (integer 0) e)
 
 returns-2 : tie.Need-returns-2
 unfolding integerAnswer
