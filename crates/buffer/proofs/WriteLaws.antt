@@ -206,3 +206,15 @@ write-mid w a k at s h l =
     ap (λ (v : List ℕ). take a w ++ v) (sym (write-within (midOf a k w) (drop k (drop a w)) at s (omega arith)))
     ∙ sym (write-skip (take a w) (midOf a k w ++ drop k (drop a w)) at s)
     ∙ rw (front, take-append-drop k (drop a w), take-append-drop a w)
+
+-- the bytes behind are put first
+pub write-before : (w : List ℕ) (i : ℕ) (s t : List ℕ) → write w i (s ++ t) ≡ write (write w (i + length s) t) i s
+unfolding write
+write-before [] i s t = refl
+write-before (x ∷ xs) (suc i) s t = rw suc-add (ap (λ (l : List ℕ). x ∷ l) (write-before xs i s t))
+write-before (x ∷ xs) zero [] t = sym (write-none (write (x ∷ xs) zero t) zero)
+write-before (x ∷ xs) zero (b ∷ bs) t = rw zero-add (ap (λ (l : List ℕ). b ∷ l) (write-before xs zero bs t ∙ ap (λ (k : ℕ). write (write xs k t) zero bs) (zero-add (length bs))))
+
+-- bytes put behind those that were put at the start
+pub write-also : (e w s t : List ℕ) (q : ℕ) → w ≡ write e 0 s → q ≡ length s → write w q t ≡ write e 0 (s ++ t)
+write-also e w s t q h k = rw (h, k, ← zero-add (length s)) (write-twice e 0 s t)

@@ -4,3 +4,6 @@ pub mod Repeat
 pub mod Others
 pub mod Ahead
 pub mod Folds
+pub mod Shift
+pub mod HeadLaws
+pub mod Put

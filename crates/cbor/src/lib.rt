@@ -1,10 +1,13 @@
 // The reader of Mercurial's CBOR subset: heads, items, and the three readers of values, arrays and maps, which
 // call each other. Positions count from the start of the slice; a position past its end holds nothing to read.
+// And the writer of shortest heads.
 ghost use mathlib.Core.Path.{_≡_};
-ghost use Prim.Native.Nat.{_+_, _≤_, _<_};
+ghost use Prim.Native.Nat.{_+_, _%_, _≤_, _<_};
 ghost use lib.ListN.{length};
 ghost use Rattle.cbor.specs.Cbor.{width, bigEndian, headAt, bytesAt, tagged, itemAt, scalarOf, key, value, repeat, pair, isItem};
 ghost use Rattle.cbor.specs.End.{EndOf};
+ghost use Rattle.cbor.specs.Heads.{bigBytes, shortest, headBytes};
+ghost use Rattle.buffer.specs.Bytes.{write};
 
 // What reading a head finds: its major type, the low five bits of its first byte, its value and the position after it.
 pub enum Head {
@@ -257,8 +260,8 @@ fn read_array(s: &[u8], levels: usize, n: u64, at: usize) -> Next
     Next::At(p)
 }
 
-// The n pairs of a map.
-fn read_map(s: &[u8], levels: usize, n: u64, at: usize) -> Next
+// The n pairs of a map, its values of at most `levels` levels.
+pub fn read_map(s: &[u8], levels: usize, n: u64, at: usize) -> Next
     ensures { λ r. ⌜ r ≡ repeat n (pair (now (s .entry)) (value (now (s .entry)) levels)) at ⌝ }
 {
     let mut p = at;
@@ -284,4 +287,57 @@ pub fn is_item(s: &[u8]) -> bool
         return false;
     };
     p == s.len()
+}
+
+// The low five bits of the shortest head's first byte.
+fn shortest(n: u64) -> u8
+    ensures { λ r. ⌜ r ≡ shortest n ⌝ }
+{
+    if n < 24 {
+        return n as u8;
+    }
+    if n < 256 {
+        return 24;
+    }
+    if n < 65536 {
+        return 25;
+    }
+    if n < 4294967296 {
+        return 26;
+    }
+    27
+}
+
+// Puts the low w bytes of a number into a buffer from a place on, the highest first, as far as the buffer goes.
+fn put_big(out: &mut [u8], at: usize, w: usize, n: u64)
+    requires { ⌜ w ≤ 8 ⌝ }
+    ensures { λ _. ⌜ now (out .exit) ≡ write (now (out .entry)) at (bigBytes w n) ⌝ }
+{
+    if out.len() <= at {
+        return;
+    }
+    let mut v = n;
+    let mut i = w;
+    while 0 < i {
+        i -= 1;
+        let byte = [(v % 256) as u8];
+        buffer::put(out, at + i, &byte);
+        v = v / 256;
+    }
+}
+
+// Puts the shortest head of a major type, 0 to 7, and a number into a buffer from a place on, as far as the buffer goes, and answers its
+// length.
+pub fn put_head(out: &mut [u8], at: usize, major: u8, n: u64) -> usize
+    ensures { λ r. ⌜ (r ≡ length (headBytes (major % 8) n)) × (now (out .exit) ≡ write (now (out .entry)) at (headBytes (major % 8) n)) ⌝ }
+{
+    let info = shortest(n);
+    let width = width_of(info);
+    if out.len() <= at {
+        return width + 1;
+    }
+    let first = [major % 8 * 32 + info];
+    buffer::put(out, at, &first);
+    put_big(out, at + 1, width, n);
+    width + 1
 }

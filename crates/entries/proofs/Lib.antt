@@ -3,3 +3,4 @@ pub mod Bools
 pub mod Walk
 pub mod Folds
 pub mod RowLaws
+pub mod Shift

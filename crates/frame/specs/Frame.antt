@@ -2,11 +2,11 @@
 -- These are definitions: they assume nothing.
 use Prim.Native.Nat.{ℕ, _/_, _%_}
 use mathlib.Core.Bool.{Bool, cond, _&&_, _||_, not}
-use mathlib.Core.List.{List}
-use lib.ListN.{take, drop}
+use mathlib.Core.List.{List, _++_}
+use lib.ListN.{length, take, drop}
 use lib.Dec.{eqb}
 use Rattle.frame.specs.declared.Header.{Header}
-use Rattle.frame.specs.Header.{lengthOf, headerOf}
+use Rattle.frame.specs.Header.{lengthOf, headerOf, headerBytes}
 
 pub record Frame : Type 0 where
   pub request : ℕ
@@ -30,6 +30,20 @@ framed h payload = record {
 -- the frame that stands at the front of a work area
 unfoldable pub frameOf : List ℕ → Frame
 frameOf w = framed (headerOf w) (take (lengthOf w) (drop 8 w))
+
+-- a frame's header and its bytes
+abbrev pub headerFor : Frame → Header
+headerFor f = record {
+  length = length (f .payload);
+  request = f .request;
+  stream = f .stream;
+  «stream_flags» = f .streamFlags;
+  kind = f .type;
+  flags = f .flags;
+}
+
+unfoldable pub frameBytes : Frame → List ℕ
+frameBytes f = headerBytes (headerFor f) ++ f .payload
 
 -- a flag is set
 unfoldable pub flag : ℕ → ℕ → Bool

@@ -1,9 +1,10 @@
 -- A frame's header, as document 01, "Frame header", states it.
 -- These are definitions: they assume nothing.
 use Prim.Native.Nat.{ℕ, _+_, _*_, _/_, _%_}
-use mathlib.Core.List.{List}
+use mathlib.Core.List.{List, [], _∷_, _++_}
 use lib.ListN.{getD}
 use Rattle.frame.specs.declared.Header.{Header}
+use Rattle.frame.specs.Records.{two}
 
 -- the payload length, in the first three bytes
 unfoldable pub lengthOf : List ℕ → ℕ
@@ -19,3 +20,13 @@ headerOf w = record {
   kind = getD w 7 0 / 16;
   flags = getD w 7 0 % 16;
 }
+
+-- ---- writing it
+
+-- a number in three bytes, the lower first
+abbrev pub three : ℕ → List ℕ
+three n = n % 256 ∷ n / 256 % 256 ∷ n / 65536 % 256 ∷ []
+
+-- the eight bytes of a header: of the type and the flags, the low four bits
+unfoldable pub headerBytes : Header → List ℕ
+headerBytes h = three (h .length) ++ two (h .request) ++ h .stream ∷ h .«stream_flags» ∷ (h .kind % 16 * 16 + h .flags % 16) ∷ []

@@ -5,7 +5,7 @@ ghost use mathlib.Core.List.{[]};
 ghost use lib.ListN.{length, getD};
 ghost use Prim.Native.Nat.{_+_, _<_};
 ghost use Rattle.buffer.specs.Bytes.{write};
-ghost use Rattle.frame.specs.Header.{lengthOf, headerOf};
+ghost use Rattle.frame.specs.Header.{lengthOf, headerOf, headerBytes};
 ghost use Rattle.frame.specs.Frame.{framed, flag, begins, ends, isNew, isMore, dataFollows, isLast, flagsFit};
 ghost use Rattle.frame.specs.Settings.{isIdentity};
 ghost use Rattle.frame.specs.Records.{requestRecord};
@@ -29,7 +29,7 @@ pub struct Header {
     pub stream: u8,
     pub stream_flags: u8,
     pub kind: u8,
-    flags: u8,
+    pub flags: u8,
 }
 
 // Whether a flag of this value is set.
@@ -137,6 +137,23 @@ pub fn read_header(frame: &[u8]) -> Header
         kind: last / 16,
         flags: last % 16,
     }
+}
+
+// Puts a header's eight bytes into a buffer from a place on, as far as the buffer goes.
+pub fn put_header(out: &mut [u8], at: usize, h: Header)
+    ensures { λ _. ⌜ now (out .exit) ≡ write (now (out .entry)) at (headerBytes h) ⌝ }
+{
+    let bytes = [
+        (h.length % 256) as u8,
+        (h.length / 256 % 256) as u8,
+        (h.length / 65536 % 256) as u8,
+        (h.request % 256) as u8,
+        (h.request / 256 % 256) as u8,
+        h.stream,
+        h.stream_flags,
+        h.kind % 16 * 16 + h.flags % 16,
+    ];
+    buffer::put(out, at, &bytes);
 }
 
 // Whether a settings payload reads `identity`.

@@ -1,5 +1,6 @@
 // The channel for C and Rust: its state is a lent run of bytes. A byte slice is a pointer and then a length; the number is the result.
 mod commands;
+mod sending;
 
 use channel::Channel;
 ghost use mathlib.Core.Path.{_≡_};

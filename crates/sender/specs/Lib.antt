@@ -1,0 +1,4 @@
+pub mod Parts
+pub mod Frames
+pub mod Send
+pub mod Steps
