@@ -4,7 +4,7 @@ pub mod SlotLaws
 pub mod ReceiverLaws
 pub mod JudgeLaws
 mod Finish
-mod FrameLaws
+pub mod FrameLaws
 mod QuietLaws
 mod ByteLaws
 mod PieceLaws

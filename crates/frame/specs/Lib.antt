@@ -3,3 +3,4 @@ pub mod Header
 pub mod Frame
 pub mod Settings
 pub mod Records
+pub mod Laws

@@ -1,0 +1,2 @@
+-- What other crates use.
+pub mod FrameBack
