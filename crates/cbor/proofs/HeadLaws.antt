@@ -1,14 +1,15 @@
--- The shortest head reads as what it was written for. One law for every width.
+-- The shortest head reads as what it was written for, and no head that reads so is shorter. One law for every width.
 -- Assumes nothing.
 use mathlib.Core.Path.{_≡_, refl, sym, ap, _∙_}
 use mathlib.Core.Bool.{Bool, true, false, cond}
 use mathlib.Core.List.{List, [], _∷_, _++_, append-assoc}
-use Prim.Native.Nat.{ℕ, zero, suc, _+_, _*_, _/_, _%_, _^_, _≤_, _<_}
-use native.Mathlib.Nat.{add-zero, pow-suc}
+use Prim.Native.Nat.{ℕ, zero, suc, _+_, _-_, _*_, _/_, _%_, _^_, _≤_, _<_}
+use native.Mathlib.Nat.{add-zero, pow-suc, le-refl, pow-le-pow-right, eq-zero-or-pos}
+use mathlib.Core.Logic.{⊎-elim}
 use native.Mathlib.Omega.{arith}
 use lib.ListN.{length, getD, length-append}
 use lib.Seq.{getD-at}
-use lib.Dec.{ltb, leb, eqb}
+use lib.Dec.{ltb, leb, lit<}
 use borrow.Author.Tests.{ltb-true, ltb-false, lt-ltb, le-ltb, lt-leb}
 use Rattle.cbor.specs.declared.Head.{Head}
 use Rattle.cbor.specs.declared.Head.the-variants.{Of, Broken}
@@ -16,6 +17,7 @@ use Rattle.cbor.specs.declared.Item.{Item}
 use Rattle.cbor.specs.declared.Item.the-variants.{Bytes, Map}
 use Rattle.cbor.specs.Cbor.{width, bigEndian, headValue, headOf, headAt, bytesAt, itemOf, itemAt}
 use Rattle.cbor.specs.Heads.{bigBytes, shortest, headBytes, stringBytes}
+use Rattle.cbor.specs.Laws.{HeadBack, NotShorter, NoneShorter}
 use Rattle.cbor.proofs.Ahead.{by-test}
 use Rattle.cbor.proofs.Shift.{shiftedItem, big-endian-shift, item-shift}
 
@@ -90,9 +92,9 @@ value-read major n info rest h = by (ltb info 24) refl
     by true e = h .itself (ltb-true info 24 e)
     by false e = big-endian-shift (major ∷ []) (bigBytes (width info) n ++ rest) 0 (width info) ∙ big-holds (width info) n rest (h .follows (ltb-false info 24 e))
 
-pub head-read : (major n : ℕ) (rest : List ℕ) → n < 2 ^ 64 → headAt (headBytes major n ++ rest) 0 ≡ Of major (shortest n) n (length (headBytes major n))
+pub head-back : HeadBack
 unfolding headAt headOf headBytes
-head-read major n rest h =
+head-back major n rest h =
     let k = shortest-holds n h in
     let info : ℕ = shortest n in
     let below : info < 28 = shortest-narrow n .unreserved in
@@ -103,13 +105,74 @@ head-read major n rest h =
     let next : 0 + 1 + width info ≡ suc (length (bigBytes (width info) n)) = omega arith in
     rw (high, low, lt-leb 28 info below, le-ltb _ _ fits, value-read (major * 32 + info) n info rest k, next)
 
+-- ---- none is shorter
+
+-- from 24 on, the low five bits name more bytes the larger they are
+width-grows : (a b : ℕ) → 24 ≤ a → a ≤ b → width a ≤ width b
+unfolding width
+width-grows a b h k = rw (le-ltb a 24 h, le-ltb b 24 (omega arith)) (pow-le-pow-right (lit< tt) (omega arith))
+
+-- so where the bytes that `a` names do not hold a number and those that `b` names do, b is larger
+passes : (a b n : ℕ) → 24 ≤ b → 256 ^ width a ≤ n → n < 256 ^ width b → a < b
+passes a b n h few enough =
+    ⊎-elim (λ z. let more : 256 ^ width b ≤ 256 ^ width a = pow-le-pow-right (lit< tt) (width-grows b a h (omega arith)) in absurd (omega arith)) (λ p. omega arith) (eq-zero-or-pos (b - a))
+
+short-itself : (n : ℕ) → ltb n 24 ≡ true → shortest n ≡ n
+unfolding shortest
+short-itself n e = rw e
+
+width-none : (n : ℕ) → ltb n 24 ≡ true → width n ≡ 0
+unfolding width
+width-none n e = rw e
+
+width-enough : (n info : ℕ) → 24 ≤ info → n < 256 ^ width info → width (shortest n) ≤ width info
+unfolding shortest width
+width-enough n info l enough =
+    by-test (λ (i : ℕ). width i ≤ width info) (ltb n 24) (λ e. rw (width-none n e) (omega arith)) (λ e.
+    by-test (λ (i : ℕ). width i ≤ width info) (ltb n 256) (λ e. width-grows 24 info (omega arith) l) (λ e.
+    let past-24 : 24 < info = passes 24 info n l (ltb-false n 256 e) enough in
+    by-test (λ (i : ℕ). width i ≤ width info) (ltb n 65536) (λ e. width-grows 25 info (omega arith) past-24) (λ e.
+    let past-25 : 25 < info = passes 25 info n l (ltb-false n 65536 e) enough in
+    by-test (λ (i : ℕ). width i ≤ width info) (ltb n 4294967296) (λ e. width-grows 26 info (omega arith) past-25) (λ e.
+    width-grows 27 info (omega arith) (passes 26 info n l (ltb-false n 4294967296 e) enough)))))
+
+width-least : (n info : ℕ) → (info < 24 → n ≡ info) → (24 ≤ info → n < 256 ^ width info) → width (shortest n) ≤ width info
+width-least n info itself follows = by (ltb info 24) refl
+  where
+    by : (b : Bool) → ltb info 24 ≡ b → width (shortest n) ≤ width info
+    by true e = rw (itself (ltb-true info 24 e), short-itself info e) (le-refl (width info))
+    by false e = let l : 24 ≤ info = ltb-false info 24 e in width-enough n info l (follows l)
+
+-- the number that is read
+big-below : (s : List ℕ) → ((i : ℕ) → getD s i 0 < 256) → (at w : ℕ) → bigEndian s at w < 256 ^ w
+unfolding bigEndian
+big-below s bytes at zero = omega arith
+big-below s bytes at (suc w) = rw pow-suc (omega (arith, big-below s bytes at w, bytes (at + w)))
+
+value-itself : (s : List ℕ) (at info : ℕ) → info < 24 → headValue s at info ≡ info
+unfolding headValue
+value-itself s at info h = rw (lt-ltb info 24 h)
+
+value-follows : (s : List ℕ) → ((i : ℕ) → getD s i 0 < 256) → (at info : ℕ) → 24 ≤ info → headValue s at info < 256 ^ width info
+unfolding headValue
+value-follows s bytes at info h = rw (le-ltb info 24 h) (big-below s bytes (at + 1) (width info))
+
+pub none-shorter : NoneShorter
+unfolding headAt headOf
+none-shorter s bytes at =
+    let info : ℕ = getD s at 0 % 32 in
+    by-test (NotShorter at) (leb 28 info) (λ e. tt) (λ e.
+    by-test (NotShorter at) (ltb (length s) (at + 1 + width info)) (λ f. tt) (λ f.
+    let n : ℕ = headValue s at info in
+    omega (arith, length-head (getD s at 0 / 32) n, width-least n info (value-itself s at info) (value-follows s bytes at info))))
+
 -- A written byte string, and a written map's head, read behind a prefix.
 string-front : (k rest : List ℕ) → length k < 2 ^ 64 → itemAt (stringBytes k ++ rest) 0 ≡ Bytes (length (headBytes 2 (length k))) (length (stringBytes k))
 unfolding itemAt stringBytes bytesAt
 string-front k rest h =
     let head : List ℕ = headBytes 2 (length k) in
     let fits : length head + length k ≤ length (head ++ (k ++ rest)) = omega (arith, length-append head (k ++ rest), length-append k rest) in
-    rw (append-assoc head k rest, head-read 2 (length k) (k ++ rest) h, le-ltb _ _ fits, length-append head k)
+    rw (append-assoc head k rest, head-back 2 (length k) (k ++ rest) h, le-ltb _ _ fits, length-append head k)
 
 pub string-at : (p k rest : List ℕ) → length k < 2 ^ 64 → itemAt (p ++ (stringBytes k ++ rest)) (length p) ≡ Bytes (length p + length (headBytes 2 (length k))) (length p + length (stringBytes k))
 string-at p k rest h =
@@ -119,7 +182,7 @@ string-at p k rest h =
 
 map-front : (n : ℕ) (rest : List ℕ) → n < 2 ^ 64 → itemAt (headBytes 5 n ++ rest) 0 ≡ Map n (length (headBytes 5 n))
 unfolding itemAt
-map-front n rest h = rw (head-read 5 n rest h)
+map-front n rest h = rw (head-back 5 n rest h)
 
 pub map-at : (p : List ℕ) (n : ℕ) (rest : List ℕ) → n < 2 ^ 64 → itemAt (p ++ (headBytes 5 n ++ rest)) (length p) ≡ Map n (length p + length (headBytes 5 n))
 map-at p n rest h =

@@ -3,15 +3,21 @@
 use Prim.Native.Nat.{ℕ, zero, suc, _+_, _-_, _*_, _≤_, _<_, min}
 use native.Mathlib.Nat.{div-mul-le-self, lt-div-mul-add}
 use mathlib.Core.Path.{_≡_, refl, sym, ap, _∙_}
-use mathlib.Core.Bool.{Bool, true, false, _&&_, not}
+use mathlib.Core.Bool.{Bool, true, false, _&&_, _||_, not}
 use mathlib.Core.List.{List, [], _∷_, _++_, map, map-append, append-nil}
 use native.Mathlib.Omega.{arith}
 use lib.ListN.{length, take, drop, length-take, length-drop}
-use Rattle.frame.specs.Frame.{Frame, begins, ends}
+use lib.Dec.{ltb, eqb}
+use borrow.Author.Tests.{ltb-true, ltb-false}
+use Rattle.frame.specs.Limits.{maxCommand}
+use Rattle.frame.specs.Frame.{Frame, isEven, begins, ends}
+use Rattle.rules.proofs.Bools.{by-cond}
+use Rattle.command.specs.Command.{checked, numberOf}
 use Rattle.sender.specs.declared.Wishes.{Wishes}
-use Rattle.sender.specs.Frames.{commandFrame, dataFrame, frames, fullFrames, commandFrames, dataFrames, messageFrames}
+use Rattle.sender.specs.Frames.{commandFrame, dataFrame, frames, fullFrames, commandFrames, dataFrames, messageFrames, total}
+use Rattle.sender.specs.Send.{maxSize, refused, framesInto, sendOf}
 use Rattle.sender.proofs.FrameLaws.{all-long}
-use Rattle.round_trip.specs.Frames.{Filled, full, last, appliesEncoding, onNone, onFirst, onLast, Flagged, MessageFramed, TotalLength}
+use Rattle.round_trip.specs.Frames.{Filled, full, last, appliesEncoding, onNone, onFirst, onLast, Flagged, MessageFramed, TotalLength, Exact, ExactTotal}
 use Rattle.round_trip.proofs.FlagLaws.{stream-flags}
 
 -- ---- the total
@@ -187,3 +193,20 @@ message-framed how command with-data bytes h = record {
       (rest-left (how .size) (length bytes)) (rest-fits (how .size) (length bytes) h);
   flags = flagged how command bytes with-data;
 }
+
+-- ---- the total
+
+unmet : (fs : List Frame) (room n : ℕ) (out : List ℕ) → (n ≡ 0 → ⊥) → (n ≡ 54 → ⊥) → Exact fs room (refused n out)
+unmet fs room n out h k = record { written = λ e. absurd (h e); enough = λ e. absurd (h e); short = λ e. absurd (k e) }
+
+pub exact-total : ExactTotal
+unfolding sendOf framesInto
+exact-total how command with-data bytes out =
+    let fs : List Frame = messageFrames how command with-data bytes in
+    by-cond (Exact fs (length out)) (isEven (how .request) || isEven (how .stream)) _ _ (λ e. unmet fs (length out) 50 out (λ k. omega arith) (λ k. omega arith)) (λ e.
+    by-cond (Exact fs (length out)) (eqb (how .size) 0 || ltb maxSize (how .size)) _ _ (λ e. unmet fs (length out) 51 out (λ k. omega arith) (λ k. omega arith)) (λ e.
+    by-cond (Exact fs (length out)) (not (eqb (numberOf (checked command)) 0)) _ _ (λ e. unmet fs (length out) 52 out (λ k. omega arith) (λ k. omega arith)) (λ e.
+    by-cond (Exact fs (length out)) (ltb maxCommand (length command)) _ _ (λ e. unmet fs (length out) 53 out (λ k. omega arith) (λ k. omega arith)) (λ e.
+    by-cond (Exact fs (length out)) (ltb (length out) (total fs)) _ _
+    (λ e. let h = ltb-true (length out) (total fs) e in record { written = λ k. absurd (omega arith); enough = λ k. absurd (omega arith); short = λ k. omega (arith, total-length fs) })
+    (λ e. let h = ltb-false (length out) (total fs) e in record { written = λ k. sym (total-length fs); enough = λ k. omega (arith, total-length fs); short = λ k. absurd (omega arith) })))))

@@ -10,3 +10,4 @@ mod DataStep
 mod Runs
 pub mod RoundTrip
 pub mod ReadBack
+pub mod Traces

@@ -9,6 +9,7 @@ use lib.ListN.{length}
 use Rattle.frame.specs.Frame.{Frame, flag, begins, ends}
 use Rattle.sender.specs.declared.Wishes.{Wishes}
 use Rattle.sender.specs.Frames.{commandFrames, dataFrames, messageFrames, allBytes, total}
+use Rattle.sender.specs.Send.{Answer, sendOf}
 
 -- ---- how full they are
 
@@ -54,3 +55,15 @@ MessageFramed = (how : Wishes) (command : List ℕ) (with-data : Bool) (bytes : 
 -- the total is the length of the bytes
 abbrev pub TotalLength : Type 0
 TotalLength = (fs : List Frame) → length (allBytes fs) ≡ total fs
+
+-- Nothing else is a total: a call that answers 0 wrote just the frames' bytes, for which there was room, and one that answers 54 had less
+-- room. (Every other answer is 50 to 53.)
+pub record Exact (fs : List Frame) (room : ℕ) (a : Answer) : Type 0 where
+  pub written : a .number ≡ 0 → a .written ≡ length (allBytes fs)
+  pub enough : a .number ≡ 0 → length (allBytes fs) ≤ room
+  pub short : a .number ≡ 54 → room < length (allBytes fs)
+
+abbrev pub ExactTotal : Type 0
+ExactTotal =
+    (how : Wishes) (command : List ℕ) (with-data : Bool) (bytes out : List ℕ)
+    → Exact (messageFrames how command with-data bytes) (length out) (sendOf how command with-data bytes out)

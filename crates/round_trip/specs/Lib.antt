@@ -1,3 +1,4 @@
 pub mod Frames
 pub mod RoundTrip
 pub mod ReadBack
+pub mod Traces

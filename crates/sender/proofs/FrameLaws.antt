@@ -12,15 +12,12 @@ use lib.Seq.{drop-drop}
 use Rattle.frame.specs.declared.Header.{Header}
 use Rattle.frame.specs.Header.{headerBytes}
 use Rattle.frame.specs.Frame.{Frame, headerFor, frameBytes}
+use Rattle.frame.proofs.FrameBack.{frame-length}
 use Rattle.buffer.specs.Bytes.{write}
 use Rattle.buffer.proofs.WriteLaws.{write-twice, length-write}
 use Rattle.sender.specs.declared.Wishes.{Wishes}
 use Rattle.sender.specs.Frames.{frames, allBytes, total}
 use Rattle.sender.specs.Steps.{frameFor}
-
-pub frame-long : (f : Frame) → length (frameBytes f) ≡ length (f .payload) + 8
-unfolding frameBytes headerBytes
-frame-long f = omega arith
 
 header-then : (f : Frame) (out : List ℕ) (at : ℕ) → write (write out at (headerBytes (headerFor f))) (at + 8) (f .payload) ≡ write out at (frameBytes f)
 unfolding frameBytes headerBytes
@@ -30,7 +27,7 @@ header-then f out at = write-twice out at (headerBytes (headerFor f)) (f .payloa
 pub all-long : (fs : List Frame) → length (allBytes fs) ≡ total fs
 unfolding allBytes total
 all-long [] = refl
-all-long (f ∷ fs) = omega (arith, length-append (frameBytes f) (allBytes fs), frame-long f, all-long fs)
+all-long (f ∷ fs) = omega (arith, length-append (frameBytes f) (allBytes fs), frame-length f, all-long fs)
 
 pub all-append : (fs gs : List Frame) → allBytes (fs ++ gs) ≡ allBytes fs ++ allBytes gs
 unfolding allBytes
@@ -124,7 +121,7 @@ carries how false with-data first last payload = refl
 pub made-long : (how : Wishes) (of-data with-data first last : Bool) (payload : List ℕ)
     → length payload + 8 ≡ length (frameBytes (frameFor how of-data with-data first last payload))
 made-long how of-data with-data first last payload =
-    omega (arith, frame-long (frameFor how of-data with-data first last payload), ap length (carries how of-data with-data first last payload))
+    omega (arith, frame-length (frameFor how of-data with-data first last payload), ap length (carries how of-data with-data first last payload))
 
 -- a frame that is put in two parts, its header and its payload
 pub in-two : (how : Wishes) (of-data with-data first last : Bool) (payload : List ℕ) (h : Header) (out : List ℕ) (at : ℕ)
