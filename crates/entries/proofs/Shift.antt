@@ -1,22 +1,20 @@
 -- A map's entries behind a prefix: they stand that many places further on, and their keys' contents are the same.
 -- Assumes nothing.
-use mathlib.Core.Path.{_≡_, refl, sym, ap, _∙_}
-use mathlib.Core.Bool.{Bool, true, false, cond}
+use mathlib.Core.Path.{_≡_, refl, ap}
 use mathlib.Core.List.{List, [], _∷_, _++_, map}
 use Prim.Native.Nat.{ℕ, zero, suc, _+_, _-_}
 use native.Mathlib.Omega.{arith}
-use lib.ListN.{length, drop}
+use lib.ListN.{length}
 use lib.Seq.{drop-append-add}
 use Rattle.cbor.specs.declared.Item.{Item}
 use Rattle.cbor.specs.declared.Item.the-variants.{Unsigned, Negative, Bytes, Simple, Array, Map, Set, Refused}
 use Rattle.cbor.specs.declared.Next.{Next}
 use Rattle.cbor.specs.declared.Next.the-variants.{At, Bad}
-use Rattle.cbor.specs.Cbor.{Reader, itemAt, value}
+use Rattle.cbor.specs.Cbor.{Reader, itemAt}
 use Rattle.cbor.proofs.Shift.{shifted, shiftedItem, item-shift, Shifts, value-shifts, of-both}
 use Rattle.keys.specs.Keys.{part, equal, twice}
 use Rattle.entries.specs.declared.Entry.{Entry}
 use Rattle.entries.specs.declared.Entry.the-variants.{Keyed, Other, Broken}
-use Rattle.entries.specs.declared.Keys.the-variants.{Single, Double, Others}
 use Rattle.entries.specs.Entries.{all, isKeyed, keyed, other, entryOf, onward, entryAt, entries, contents, hasKey, find, keysOf}
 
 abbrev pub shiftedEntry : ℕ → Entry → Entry

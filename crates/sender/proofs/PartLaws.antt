@@ -4,13 +4,10 @@
 use mathlib.Core.Path.{_≡_, refl, sym, ap, _∙_}
 use mathlib.Core.Bool.{Bool, true, false, cond, _&&_, _||_}
 use mathlib.Core.List.{List, [], _∷_, _++_, append-assoc}
-use Prim.Native.Nat.{ℕ, zero, suc, _+_, _-_, _^_, _≤_, _<_}
-use native.Mathlib.Nat.{add-zero}
+use Prim.Native.Nat.{ℕ, _+_, _-_, _^_, _<_}
 use native.Mathlib.Omega.{arith}
-use lib.ListN.{length, take, drop, length-append}
+use lib.ListN.{length, length-append}
 use lib.Seq.{take-at, drop-at}
-use lib.Dec.{leb}
-use Rattle.cbor.specs.declared.Item.{Item}
 use Rattle.cbor.specs.declared.Item.the-variants.{Bytes, Map}
 use Rattle.cbor.specs.declared.Next.{Next}
 use Rattle.cbor.specs.declared.Next.the-variants.{At, Bad}
@@ -22,7 +19,7 @@ use Rattle.keys.specs.Keys.{part, equal, among, twice}
 use Rattle.entries.specs.declared.Entry.{Entry}
 use Rattle.entries.specs.declared.Entry.the-variants.{Keyed}
 use Rattle.entries.specs.declared.Keys.the-variants.{Single, Double, Others}
-use Rattle.entries.specs.Entries.{all, any, isKeyed, keyed, onward, entryAt, entries, contents, find, keysOf}
+use Rattle.entries.specs.Entries.{all, any, isKeyed, entryAt, entries, contents, find, keysOf}
 use Rattle.entries.proofs.Shift.{entries-shift, part-shift, all-keyed-shift, twice-shift}
 use Rattle.command_map.specs.declared.Checked.{Checked}
 use Rattle.command_map.specs.declared.Checked.the-variants.{Command, NotItem, NotCommand, DoubleKey}

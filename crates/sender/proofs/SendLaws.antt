@@ -1,13 +1,13 @@
 -- What the sending call answers in each of its cases, by the tests that the code makes.
 -- Assumes nothing.
-use mathlib.Core.Path.{_≡_, refl, sym, ap, _∙_}
+use mathlib.Core.Path.{_≡_, refl}
 use mathlib.Core.Bool.{Bool, true, false, cond, _&&_, _||_, not, false≢true}
 use mathlib.Core.List.{List}
-use Prim.Native.Nat.{ℕ, _+_, _^_, _≤_, _<_}
+use Prim.Native.Nat.{ℕ, _^_, _≤_, _<_}
 use native.Mathlib.Omega.{arith}
 use lib.ListN.{length}
 use lib.Dec.{ltb, leb, eqb}
-use borrow.Author.Tests.{eqb-false, lt-ltb, le-ltb, eq-eqb, ne-eqb, leb-true}
+use borrow.Author.Tests.{eqb-false, lt-ltb, le-ltb, ne-eqb, leb-true}
 use Rattle.cbor.specs.Cbor.{whole}
 use Rattle.frame.specs.Frame.{isEven}
 use Rattle.frame.specs.Limits.{maxCommand}

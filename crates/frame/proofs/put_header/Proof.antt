@@ -1,6 +1,5 @@
 -- `frame::put_header` meets its contract: the eight bytes are those of the definition.
 -- Assumes nothing.
-use mathlib.Core.Path.{_≡_}
 use borrow.Author.Needs.{needs}
 use Rattle.frame.specs.Header.{headerBytes}
 use Rattle.frame.proofs.put_header.Statement.{statement}

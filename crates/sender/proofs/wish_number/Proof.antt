@@ -1,6 +1,5 @@
 -- `sender::wish_number` meets its contract: the code makes the definition's tests.
 -- Assumes nothing.
-use mathlib.Core.Path.{_≡_}
 use Rattle.frame.specs.Frame.{isEven}
 use Rattle.sender.specs.Steps.{wishNumber}
 use Rattle.sender.proofs.wish_number.Statement.{statement}

@@ -1,6 +1,5 @@
 -- `sender::frames::command_flags` meets its contract: the test names the case of the first frame.
 -- Assumes nothing.
-use mathlib.Core.Path.{_≡_}
 use mathlib.Core.Bool.{not}
 use native.Mathlib.Omega.{arith}
 use borrow.Author.Needs.{needs}

@@ -1,6 +1,5 @@
 -- `sender::frames::data_flags` meets its contract: each test names the case.
 -- Assumes nothing.
-use mathlib.Core.Path.{_≡_}
 use Rattle.sender.specs.Frames.{dataFlags}
 use Rattle.sender.proofs.frames.data_flags.Statement.{statement}
 use Rattle.sender.proofs.frames.data_flags.Tie as tie

@@ -1,6 +1,6 @@
 -- `sender::frames::full_frames` meets its contract.
 -- Assumes nothing.
-use mathlib.Core.Path.{_≡_, sym}
+use mathlib.Core.Path.{sym}
 use native.Mathlib.Nat.{zero-div}
 use borrow.Author.Needs.{needs}
 use Rattle.sender.specs.Frames.{fullFrames}

@@ -1,9 +1,6 @@
 -- `sender::frames::header_for` meets its contract: the test names the type of the frame.
 -- Assumes nothing.
-use mathlib.Core.Path.{_≡_}
 use borrow.Author.Needs.{needs}
-use Rattle.frame.specs.Frame.{headerFor}
-use Rattle.sender.specs.Steps.{frameFor}
 use Rattle.sender.proofs.frames.header_for.Statement.{statement}
 use Rattle.sender.proofs.frames.header_for.Tie as tie
 

@@ -1,6 +1,6 @@
 -- `sender::frames::put_frame` meets its contract: the eight bytes of the header, then the payload.
 -- Assumes nothing.
-use mathlib.Core.Path.{_≡_, refl, _∙_}
+use mathlib.Core.Path.{refl, _∙_}
 use borrow.Author.Needs.{needs}
 use Rattle.sender.proofs.FrameLaws.{in-two}
 use Rattle.sender.proofs.frames.put_frame.Statement.{statement}

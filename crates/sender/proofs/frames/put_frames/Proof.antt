@@ -1,13 +1,12 @@
 -- `sender::frames::put_frames` meets its contract: each turn of the loop puts a full frame, and the last goes behind them.
 -- Assumes nothing.
-use Prim.Native.Nat.{ℕ, _+_, _-_, _*_, _≤_, _<_}
+use Prim.Native.Nat.{ℕ, _+_, _-_, _≤_}
 use mathlib.Core.Path.{_≡_, refl, sym, ap, _∙_}
 use mathlib.Core.Bool.{true, false}
 use mathlib.Core.List.{List}
 use native.Mathlib.Omega.{arith}
 use lib.ListN.{length, take, drop, length-drop}
 use lib.Seq.{take-all}
-use Rattle.buffer.specs.Bytes.{write}
 use Rattle.buffer.proofs.WriteLaws.{length-write}
 use Rattle.sender.specs.Steps.{frameFor, typeBytes}
 use Rattle.sender.proofs.FrameLaws.{fullBytes, made-long, Going, room, frame-fits, goes-on, last-fits, ended}

@@ -1,6 +1,5 @@
 -- `sender::frames::stream_flags` meets its contract.
 -- Assumes nothing.
-use mathlib.Core.Path.{_≡_}
 use native.Mathlib.Omega.{arith}
 use borrow.Author.Needs.{needs}
 use Rattle.sender.specs.Frames.{streamFlags}

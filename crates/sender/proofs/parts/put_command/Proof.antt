@@ -1,35 +1,50 @@
 -- `sender::parts::put_command` meets its contract: the six parts of a command, one behind the other.
 -- Assumes nothing.
-use mathlib.Core.Path.{_≡_, refl, sym, _∙_}
+use Prim.Native.Nat.{ℕ, _≤_}
+use mathlib.Core.Path.{_≡_}
 use native.Mathlib.Omega.{arith}
 use lib.ListN.{length}
 use borrow.Author.Needs.{needs}
+use Rattle.cbor.specs.Heads.{headBytes}
 use Rattle.cbor.proofs.HeadLaws.{head-most}
 use Rattle.sender.proofs.CommandLaws.{command-long, command-put}
 use Rattle.sender.proofs.parts.put_command.Statement.{statement}
 use Rattle.sender.proofs.parts.put_command.Tie as tie
 
+head-small : (major n r : ℕ) → r ≡ length (headBytes major n) → r ≤ 9
+head-small major n r e = rw e (head-most major n)
+
 add-start : tie.Need-add-start
-add-start c = omega (arith, c .before .before .put-head .ensures .0, head-most 2 (length (c .before .before .before .before .before .before .before .before .before .before .before .before .args .name .now)))
+add-start c = omega (arith, head-small _ _ _ (c .before .before .put-head .ensures .0))
 
 add-stop : tie.Need-add-stop
-add-stop c = omega (arith, c .before .before .before .before .before .before .put-head .ensures .0, head-most 2 (length (c .before .before .before .before .before .before .before .before .before .before .before .before .before .before .before .before .args .name .now)), c .before .before .before .before .before .before .before .before .before .before .before .before .before .before .before .before .pre .0)
+add-stop c =
+    let h = c .before .before .before .before .before .before in
+    let s = h .before .before .before .before .before .before .before .before .before .before in
+    omega (arith, head-small _ _ _ (h .put-head .ensures .0), s .pre .0)
 
 add-first : tie.Need-add-first
-add-first c = omega (arith, c .before .before .before .before .before .before .before .before .before .before .before .put-head .ensures .0, head-most 2 (length (c .before .before .before .before .before .before .before .before .before .before .before .before .before .before .before .before .before .before .before .before .before .args .name .now)), c .before .before .before .before .before .before .before .before .before .before .before .before .before .before .before .before .before .before .before .before .before .pre .0)
+add-first c =
+    let h = c .before .before .before .before .before .before .before .before .before .before .before in
+    let s = h .before .before .before .before .before .before .before .before .before .before in
+    omega (arith, head-small _ _ _ (h .put-head .ensures .0), s .pre .0)
 
 add-put-head : tie.Need-add-put-head
 add-put-head c = add-first (c .before)
 
 add-first-2 : tie.Need-add-first-2
 add-first-2 c =
-    let s = c .before .before .before .before .before .before .before .before .before .before .before .before .before .before .before .before .before .before .before .before .before .before .before .before .before in
-    omega (arith, c .before .before .before .before .before .before .before .before .before .before .before .before .before .before .before .put-head .ensures .0, c .before .before .put-head2 .ensures .0, head-most 2 (length (s .args .name .now)), head-most 5 (s .args .count), s .pre .0)
+    let k = c .before .before in
+    let h = k .before .before .before .before .before .before .before .before .before .before .before .before .before in
+    let s = h .before .before .before .before .before .before .before .before .before .before in
+    omega (arith, head-small _ _ _ (h .put-head .ensures .0), head-small _ _ _ (k .put-head2 .ensures .0), s .pre .0)
 
 add-result : tie.Need-add-result
 add-result c =
-    let s = c .before .before .before .before .before .before .before .before .before .before .before .before .before .before .before .before .before .before .before .before .before .before .before .before .before .before .before .before .before in
-    omega (arith, c .before .before .before .before .before .before .before .before .before .before .before .before .before .before .before .before .before .before .before .put-head .ensures .0, c .before .before .before .before .before .before .put-head2 .ensures .0, head-most 2 (length (s .args .name .now)), head-most 5 (s .args .count), s .pre .0, s .pre .1)
+    let k = c .before .before .before .before .before .before in
+    let h = k .before .before .before .before .before .before .before .before .before .before .before .before .before in
+    let s = h .before .before .before .before .before .before .before .before .before .before in
+    omega (arith, head-small _ _ _ (h .put-head .ensures .0), head-small _ _ _ (k .put-head2 .ensures .0), s .pre .0, s .pre .1)
 
 returns : tie.Need-returns
 returns c =
