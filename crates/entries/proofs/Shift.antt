@@ -15,7 +15,7 @@ use Rattle.cbor.proofs.Shift.{shifted, shiftedItem, item-shift, Shifts, value-s
 use Rattle.keys.specs.Keys.{part, equal, twice}
 use Rattle.entries.specs.declared.Entry.{Entry}
 use Rattle.entries.specs.declared.Entry.the-variants.{Keyed, Other, Broken}
-use Rattle.entries.specs.Entries.{all, isKeyed, keyed, other, entryOf, onward, entryAt, entries, contents, hasKey, find, keysOf}
+use Rattle.entries.specs.Entries.{all, isKeyed, keyed, other, entryOf, onward, entryAt, entries, contents, hasKey, find}
 
 abbrev pub shiftedEntry : ℕ → Entry → Entry
 shiftedEntry n (Keyed start stop next) = Keyed (n + start) (n + stop) (n + next)
@@ -98,7 +98,3 @@ module _ (p s : List ℕ) where
 
   pub twice-shift : (es : List Entry) → twice (contents (p ++ s) (map (shiftedEntry past) es)) ≡ twice (contents s es)
   twice-shift es = ap twice (contents-shift es)
-
-  pub keys-shift : (es : List Entry) → keysOf (p ++ s) (map (shiftedEntry past) es) ≡ keysOf s es
-  unfolding keysOf
-  keys-shift es = rw (all-keyed-shift es, contents-shift es)

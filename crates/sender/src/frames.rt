@@ -7,6 +7,7 @@ ghost use Prim.Native.Nat.{_+_, _*_, _≤_, _<_};
 ghost use lib.ListN.{length};
 ghost use Rattle.buffer.specs.Bytes.{write};
 ghost use Rattle.frame.specs.Frame.{headerFor, frameBytes};
+ghost use Rattle.frame.specs.Limits.{maxCommand};
 ghost use Rattle.sender.specs.Frames.{flagIf, streamFlags, commandFlags, dataFlags, fullFrames, messageFrames};
 ghost use Rattle.sender.specs.Send.{answer, framesInto};
 ghost use Rattle.sender.specs.Steps.{frameFor, typeBytes};
@@ -149,14 +150,14 @@ fn full_frames(size: usize, n: usize) -> usize
 
 // Puts a command's frames and those of its data into the output, or refuses with 54. With size 1 the total is nine times the length: it is
 // compared part by part and never added up before.
-pub fn put_message(
+pub(crate) fn put_message(
     out: &mut [u8],
     how: Wishes,
     command: &[u8],
     with_data: bool,
     data: &[u8],
 ) -> Sent
-    requires { ⌜ (0 < how .size) × (length (now command) ≤ 2048) ⌝ }
+    requires { ⌜ (0 < how .size) × (length (now command) ≤ maxCommand) ⌝ }
     ensures { λ r. ⌜ answer (r .number) (r .written) (now (out .exit)) ≡ framesInto (messageFrames how (now (command .entry)) «with_data» (now («data» .entry))) (now (out .entry)) ⌝ }
 {
     let size = how.size;

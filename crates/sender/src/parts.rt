@@ -6,10 +6,11 @@ ghost use Prim.Native.Nat.{_≤_};
 ghost use lib.ListN.{length};
 ghost use Rattle.buffer.specs.Bytes.{write};
 ghost use Rattle.command.specs.Command.{checked, numberOf};
+ghost use Rattle.frame.specs.Limits.{maxCommand};
 ghost use Rattle.sender.specs.Parts.{commandBytes};
 
 // The check of the command, told from its parts: the command is built nowhere, so it may have any length.
-pub fn parts_number(name: &[u8], pairs: &[u8], count: u64) -> u32
+pub(crate) fn parts_number(name: &[u8], pairs: &[u8], count: u64) -> u32
     ensures { λ r. ⌜ r ≡ numberOf (checked (commandBytes (now (name .entry)) (now (pairs .entry)) count)) ⌝ }
 {
     let Next::At(end) = cbor::read_map(pairs, 6, count, 0) else {
@@ -32,8 +33,8 @@ pub fn parts_number(name: &[u8], pairs: &[u8], count: u64) -> u32
 }
 
 // Puts the command into a buffer from its start, as far as the buffer goes, and answers the command's length.
-pub fn put_command(out: &mut [u8], name: &[u8], pairs: &[u8], count: u64) -> usize
-    requires { ⌜ (length (now name) ≤ 64) × (length (now pairs) ≤ 2048) ⌝ }
+pub(crate) fn put_command(out: &mut [u8], name: &[u8], pairs: &[u8], count: u64) -> usize
+    requires { ⌜ (length (now name) ≤ 64) × (length (now pairs) ≤ maxCommand) ⌝ }
     ensures { λ r. ⌜ (r ≡ length (commandBytes (now (name .entry)) (now (pairs .entry)) count)) × (now (out .exit) ≡ write (now (out .entry)) 0 (commandBytes (now (name .entry)) (now (pairs .entry)) count)) ⌝ }
 {
     buffer::put(out, 0, b"\xa2Dname");

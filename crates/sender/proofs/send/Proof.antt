@@ -10,6 +10,7 @@ use lib.Seq.{length-take-le}
 use borrow.Author.Needs.{needs}
 use Rattle.buffer.specs.Bytes.{write}
 use Rattle.buffer.proofs.WriteLaws.{length-write, take-front}
+use Rattle.frame.specs.Limits.{maxCommand}
 use Rattle.sender.specs.Parts.{commandBytes}
 use Rattle.sender.proofs.SendLaws.{bad-wish, bad-command, long-command, by-room, some-size, name-small, pairs-least}
 use Rattle.sender.proofs.send.Statement.{statement}
@@ -80,15 +81,15 @@ returns-4 c =
     (omega (arith, c .before .if4 .taken, p .put-command .ensures .0)))
 
 -- where the command has been put: the row has its 2,048 bytes, and the command at its front
-module _ (w v s : List ℕ) (n : ℕ) (e : n ≡ length s) (l : n ≤ 2048) (f : v ≡ write w 0 s) (h : length w ≡ 2048) where
+module _ (w v s : List ℕ) (n : ℕ) (e : n ≡ length s) (l : n ≤ maxCommand) (f : v ≡ write w 0 s) (h : length w ≡ maxCommand) where
   taken-long : n ≡ length (take n v)
   taken-long = sym (length-take-le n v (rw (f, length-write) (omega arith)))
 
   taken-all : take n v ≡ s
   taken-all = rw (e, f) (take-front w s (omega arith))
 
-row-long : length (replicate {A = ℕ} 2048 0) ≡ 2048
-row-long = length-replicate {A = ℕ} 2048 0
+row-long : length (replicate {A = ℕ} maxCommand 0) ≡ maxCommand
+row-long = length-replicate {A = ℕ} maxCommand 0
 
 slice-aggregate-put-message : tie.Need-slice-aggregate-put-message
 slice-aggregate-put-message c = let p = c .before .before .before .before in taken-long _ _ _ _ (p .put-command .ensures .0) (c .before .before .if4 .left) (p .put-command .ensures .1) row-long

@@ -8,12 +8,13 @@ use lib.ListN.{length}
 use borrow.Author.Needs.{needs}
 use borrow.Author.Tests.{not-true, not-false}
 use Rattle.buffer.proofs.WriteLaws.{length-write}
+use Rattle.frame.specs.Limits.{maxCommand}
 use Rattle.sender.specs.Frames.{fullFrames, messageFrames, total}
 use Rattle.sender.proofs.MessageLaws.{full-fits, full-most, type-long, as-command, as-data, command-total, data-total, message-least, message-plain, message-data, message-total, too-short, all-put, both-put}
 use Rattle.sender.proofs.frames.put_message.Statement.{statement}
 use Rattle.sender.proofs.frames.put_message.Tie as tie
 
-full-small : (size n full : ℕ) → full ≡ fullFrames size n → n ≤ 2048 → full ≤ 2048
+full-small : (size n full : ℕ) → full ≡ fullFrames size n → n ≤ maxCommand → full ≤ maxCommand
 full-small size n full e h = omega (arith, full-most size n)
 
 add-short : tie.Need-add-short

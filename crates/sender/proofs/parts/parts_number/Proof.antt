@@ -18,6 +18,10 @@ use Rattle.sender.specs.Parts.{commandBytes, nameStart, nameStop, firstP
 use Rattle.sender.proofs.PartLaws.{checked-by-parts}
 use Rattle.sender.proofs.parts.parts_number.Statement.{statement}
 use Rattle.sender.proofs.parts.parts_number.Tie as tie
+use Rattle.sender.proofs.parts.parts_number.Reads as reads
+use Rattle.sender.proofs.parts.parts_number.Lts as lts
+use Rattle.cbor.proofs.read_map.Reads as read-map-reads
+use Rattle.entries.proofs.judge_keys.Reads as judge-keys-reads
 
 -- the number, case by case
 module _ (name pairs : List ℕ) (count : ℕ) (hn : length name < 2 ^ 64) (hc : count < 2 ^ 64) where
@@ -77,32 +81,27 @@ returns-4 c =
     let a = m .before .before .before .args in
     long (a .name .now) (a .pairs .now) (a .count) (omega arith) (omega arith) _ (sym (e .end .given .1) ∙ m .read-map .ensures) (c .before .before .if1 .left) (c .if3 .taken)
 
+-- past the search of the keys
+module _ (k : lts.After-judge-keys (read-map-reads.Asked, read-map-reads.Learnt, judge-keys-reads.Asked, judge-keys-reads.Learnt) reads.Pre reads.Post) where
+  searched : (x : Keys) → x ≡ k .judge-keys .result
+      → let a = k .before .before .before .before .before .before .before .before .before .before .args in
+      Number (a .name .now) (a .pairs .now) (a .count) (omega arith) (omega arith) (numberOf (byKeys x (Command (nameStart (a .name .now)) (nameStop (a .name .now)) (a .count) (firstPair (a .name .now) (a .count)))))
+  unfolding pairsEnd
+  searched x h =
+      let e = k .before .before .before .before .before in
+      let m = e .before .before in
+      let a = m .before .before .before .args in
+      by-keys (a .name .now) (a .pairs .now) (a .count) (omega arith) (omega arith) _ (sym (e .end .given .1) ∙ m .read-map .ensures) (k .before .before .before .if1 .left) (k .before .before .if2 .left)
+      (k .before .if3 .left) x (h ∙ k .judge-keys .ensures)
+
 returns-5 : tie.Need-returns-5
-unfolding pairsEnd
-returns-5 c =
-    let k = c .before .before in
-    let e = k .before .before .before .before .before in
-    let m = e .before .before in
-    let a = m .before .before .before .args in
-    by-keys (a .name .now) (a .pairs .now) (a .count) (omega arith) (omega arith) _ (sym (e .end .given .1) ∙ m .read-map .ensures) (k .before .before .before .if1 .left) (k .before .before .if2 .left) (k .before .if3 .left) Single (sym (c .enum-told2 .given .1) ∙ k .judge-keys .ensures)
+returns-5 c = searched (c .before .before) Single (sym (c .enum-told2 .given .1))
 
 returns-6 : tie.Need-returns-6
-unfolding pairsEnd
-returns-6 c =
-    let k = c .before .before in
-    let e = k .before .before .before .before .before in
-    let m = e .before .before in
-    let a = m .before .before .before .args in
-    by-keys (a .name .now) (a .pairs .now) (a .count) (omega arith) (omega arith) _ (sym (e .end .given .1) ∙ m .read-map .ensures) (k .before .before .before .if1 .left) (k .before .before .if2 .left) (k .before .if3 .left) Double (sym (c .enum-told3 .given .1) ∙ k .judge-keys .ensures)
+returns-6 c = searched (c .before .before) Double (sym (c .enum-told3 .given .1))
 
 returns-7 : tie.Need-returns-7
-unfolding pairsEnd
-returns-7 c =
-    let k = c .before .before in
-    let e = k .before .before .before .before .before in
-    let m = e .before .before in
-    let a = m .before .before .before .args in
-    by-keys (a .name .now) (a .pairs .now) (a .count) (omega arith) (omega arith) _ (sym (e .end .given .1) ∙ m .read-map .ensures) (k .before .before .before .if1 .left) (k .before .before .if2 .left) (k .before .if3 .left) Others (sym (c .enum-told4 .given .1) ∙ k .judge-keys .ensures)
+returns-7 c = searched (c .before .before) Others (sym (c .enum-told4 .given .1))
 
 pub parts-number-spec : {M : Type 1} → statement M
 parts-number-spec =
