@@ -56,13 +56,18 @@ impl Frame {
         Frame::write(1, stream, BEGINS, SETTINGS << 4 | 0x02, b"\x48identity")
     }
 
-    fn write(request: u16, stream: u8, stream_flags: u8, last: u8, payload: &[u8]) -> Frame {
+    /// `last` is the header's last byte: the type and the flags.
+    pub fn write(request: u16, stream: u8, stream_flags: u8, last: u8, payload: &[u8]) -> Frame {
         let length = (payload.len() as u32).to_le_bytes();
         let mut bytes = length[..3].to_vec();
         bytes.extend(request.to_le_bytes());
         bytes.extend([stream, stream_flags, last]);
         bytes.extend(payload);
         Frame { bytes }
+    }
+
+    pub fn bytes(&self) -> &[u8] {
+        &self.bytes
     }
 
     pub fn request(&self) -> u16 {

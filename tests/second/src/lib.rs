@@ -1,6 +1,7 @@
-//! A second reading of the rules, written from the scope paper alone.
+//! A second reading of the rules, written from the papers alone.
 //! A command's bytes are read into a tree of values first and the tree is
-//! judged after. The channel is told by the history of its frames.
+//! judged after. The channel is told by the history of its frames. What is
+//! sent is a list of frames before it is bytes.
 
 pub mod bytes;
 pub mod capture;
@@ -8,5 +9,6 @@ pub mod command;
 pub mod frame;
 pub mod receiver;
 pub mod replay;
+pub mod sender;
 pub mod state;
 pub mod value;

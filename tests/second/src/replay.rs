@@ -3,6 +3,7 @@
 use crate::bytes::{MOST_LENGTH, MOST_PENDING};
 use crate::command;
 use crate::receiver::Receiver;
+use crate::sender::{send, Request};
 use crate::state::{Phase, Slot, State, SLOTS, WORK};
 use std::collections::BTreeSet;
 
@@ -15,7 +16,7 @@ const UNWRITTEN: u8 = 0xa5;
 
 pub struct Replay {
     receiver: Receiver,
-    /// The last feed's output, and how much of it was written.
+    /// The output of the last feed or send, and how much of it was written.
     output: Vec<u8>,
     written: usize,
 }
@@ -58,6 +59,7 @@ impl Replay {
             ["set", ref state @ ..] => self.set(state),
             ["poke", place, bytes] => self.poke(place, bytes),
             ["feed", length, bytes] => self.feed(length, bytes),
+            ["send", ref words @ ..] => self.send(words),
             ["finish", id] => self.finish(id),
             ["state"] => Some(format!("state {}", state_text(&self.receiver.state()))),
             ["tail"] => Some(self.tail()),
@@ -103,6 +105,36 @@ impl Replay {
         let records = to_hex(&self.output[..fed.written]);
         let (number, taken, written) = (fed.number, fed.taken, fed.written);
         Some(format!("fed {number} {taken} {written} {records}"))
+    }
+
+    fn send(&mut self, words: &[&str]) -> Option<String> {
+        let [length, name, count, pairs, id, stream, begin, end, size, data] = *words else {
+            return None;
+        };
+        let length = number(length, LENT)? as usize;
+        let (name, pairs) = (from_hex(name)?, from_hex(pairs)?);
+        let data = match data {
+            "none" => None,
+            _ => Some(from_hex(data)?),
+        };
+        let request = Request {
+            name: &name,
+            pairs: &pairs,
+            count: number(count, u64::MAX)?,
+            id: number(id, u16::MAX.into())? as u16,
+            stream: number(stream, u8::MAX.into())? as u8,
+            begin: bit(begin)?,
+            end: bit(end)?,
+            size: number(size, u64::MAX)?,
+            data: data.as_deref(),
+        };
+        self.output.clear();
+        self.output.resize(length, UNWRITTEN);
+        let sent = send(&request, &mut self.output);
+        self.written = sent.written;
+        let frames = to_hex(&self.output[..sent.written]);
+        let (number, written) = (sent.number, sent.written);
+        Some(format!("sent {number} {written} {frames}"))
     }
 
     fn finish(&mut self, id: &str) -> Option<String> {
@@ -159,6 +191,14 @@ fn number(word: &str, most: u64) -> Option<u64> {
         return None;
     }
     word.parse().ok().filter(|number| *number <= most)
+}
+
+fn bit(word: &str) -> Option<bool> {
+    match word {
+        "0" => Some(false),
+        "1" => Some(true),
+        _ => None,
+    }
 }
 
 fn digit(byte: u8) -> Option<u8> {
@@ -218,11 +258,7 @@ fn slot(word: &str) -> Option<Slot> {
             "r" => Phase::Running,
             _ => return None,
         },
-        data: match data {
-            "0" => false,
-            "1" => true,
-            _ => return None,
-        },
+        data: bit(data)?,
         length: number(length, MOST_LENGTH)?,
     })
 }
@@ -304,7 +340,13 @@ mod tests {
         let lines = "x|state |state  | state|fresh|fresh 100001|fresh -|fresh 5 256|fresh 5 0 0|\
             fresh +5|fresh 5 |feed 5|feed 5 0|feed 5 0A|feed 5 0g|feed -1 -|feed 100001 -|feed  5 -|\
             finish 65536|finish|finish -|finish 1 |poke 20488 00|poke 20489 -|poke 0 0|work 2 1|\
-            work 0 20489|worksum 0|tail 0|check|check 0|name|arg -|int 00|set|set 0 0 -|\u{e9}|state\r";
+            work 0 20489|worksum 0|tail 0|check|check 0|name|arg -|int 00|set|set 0 0 -|\u{e9}|state\r|\
+            send|send 9 61 0 - 1 1 0 0 1|send 9 61 0 - 1 1 0 0 1 none 0|send 9 61 0 - 1 1 0 0 1 |\
+            send 9 61 0 - 1 1 0 2 1 none|send 9 61 0 - 1 1 00 0 1 none|send 9 61 0 - 1 256 0 0 1 none|\
+            send 9 61 0 - 65536 1 0 0 1 none|send 9 61 0 - 1 1 0 0 18446744073709551616 none|\
+            send 9 61 18446744073709551616 - 1 1 0 0 1 none|send 100001 61 0 - 1 1 0 0 1 none|\
+            send 9 6 0 - 1 1 0 0 1 none|send 9 61 0 0g 1 1 0 0 1 none|send 9 none 0 - 1 1 0 0 1 none|\
+            send 9 61 0 none 1 1 0 0 1 none|send 9 61 0 - 1 1 0 0 1 None|send 9 61 -1 - 1 1 0 0 1 none";
         for line in lines.split('|') {
             let answer = replay.answer(line.as_bytes());
             assert_eq!(answer.as_deref(), Some("bad"), "{line}");
