@@ -1,6 +1,7 @@
-//! The receiving side of one hgrpc channel: bytes of the line go in, records
-//! come out. These are the calls of the archive `libhgrpc.a`, which is for
-//! x86-64 Linux, as safe functions over slices. As a crate of its own:
+//! Both sides of one hgrpc channel: on the receiving side bytes of the line go
+//! in and records come out; the sending side writes a request's frames. These
+//! are the calls of the archive `libhgrpc.a`, which is for x86-64 Linux, as safe
+//! functions over slices. As a crate of its own:
 //!
 //!     rustc --edition 2021 --crate-type rlib --crate-name hgrpc \
 //!         -L native=target/staticlib -l static=hgrpc bindings/hgrpc.rs
@@ -19,6 +20,8 @@ pub const STATE: usize = 179;
 pub const WORK: usize = 20_488;
 /// The bytes of an output, at least: those of the longest record.
 pub const OUTPUT: usize = 4_103;
+/// The bytes of a frame before its payload.
+pub const FRAME_HEAD: usize = 8;
 /// The bytes of a record before its command or payload.
 pub const RECORD_HEAD: usize = 7;
 /// The bytes of a command, at most.
@@ -65,6 +68,24 @@ pub mod raw {
             key: *const u8,
             key_length: usize,
             value: *mut i64,
+        ) -> u32;
+        pub fn hgrpc_send(
+            name: *const u8,
+            name_length: usize,
+            pairs: *const u8,
+            pairs_length: usize,
+            count: u64,
+            request: u16,
+            stream: u8,
+            begin: bool,
+            end: bool,
+            size: usize,
+            with_data: bool,
+            data: *const u8,
+            data_length: usize,
+            out: *mut u8,
+            out_length: usize,
+            written: *mut usize,
         ) -> u32;
     }
 }
@@ -203,6 +224,87 @@ pub fn integer(command: &[u8], key: &[u8]) -> Result<i64, u32> {
         0 => Ok(value),
         _ => Err(number),
     }
+}
+
+/// A request to be sent: a command, and data if some follows it.
+#[derive(Clone, Copy, Debug, PartialEq, Eq)]
+pub struct Request<'r> {
+    /// An odd number that is not in use.
+    pub id: u16,
+    /// The stream that the frames are sent on, an odd number.
+    pub stream: u8,
+    /// Whether the first frame begins the stream. The receiver wants that
+    /// exactly where the stream is closed.
+    pub begin: bool,
+    /// Whether the last frame ends the stream.
+    pub end: bool,
+    /// The bytes of a full payload, 1 to `PAYLOAD_LONGEST`.
+    pub size: usize,
+    /// The command's name, 1 to 64 bytes.
+    pub name: &'r [u8],
+    /// The arguments: keys, which are byte strings, and values in turn, each a
+    /// CBOR item of the subset, one behind the other.
+    pub pairs: &'r [u8],
+    /// How many pairs those are.
+    pub count: u64,
+    /// None: no data follows. No bytes of data are one frame, an empty one.
+    pub data: Option<&'r [u8]>,
+}
+
+impl Request<'_> {
+    /// The bytes of output that are enough for `send`, whatever the name and
+    /// the pairs: a command that is sent has at most `COMMAND_LONGEST`. None if
+    /// the size is 0, or if there are more than can be counted.
+    pub fn most(&self) -> Option<usize> {
+        let size = Some(self.size).filter(|size| *size > 0)?;
+        let frames = |bytes: usize| {
+            let heads = bytes.div_ceil(size).max(1).checked_mul(FRAME_HEAD)?;
+            heads.checked_add(bytes)
+        };
+        let data = self.data.map_or(Some(0), |data| frames(data.len()))?;
+        frames(COMMAND_LONGEST)?.checked_add(data)
+    }
+}
+
+/// What a send answers: its number, and how many bytes it wrote to the output.
+#[derive(Clone, Copy, Debug, PartialEq, Eq)]
+pub struct Sent {
+    pub number: u32,
+    pub written: usize,
+}
+
+/// Writes the frames of a request. 0: they are at the front of the output, and
+/// the rest of it is as it was. 50 to 54, tried in number order: nothing is
+/// written. 50: an even request or stream id. 51: a size outside the range. 52:
+/// a command the check would refuse, as by a number of pairs that they are not.
+/// 53: a command over `COMMAND_LONGEST`. 54: the output is shorter than the
+/// frames together, for which `Request::most` is enough.
+pub fn send(request: &Request, out: &mut [u8]) -> Sent {
+    let data = request.data.unwrap_or_default();
+    let mut written = 0;
+    // Each pointer comes with its own length, and slices lent like this lie
+    // apart wherever one of them is written.
+    let number = unsafe {
+        raw::hgrpc_send(
+            request.name.as_ptr(),
+            request.name.len(),
+            request.pairs.as_ptr(),
+            request.pairs.len(),
+            request.count,
+            request.id,
+            request.stream,
+            request.begin,
+            request.end,
+            request.size,
+            request.data.is_some(),
+            data.as_ptr(),
+            data.len(),
+            out.as_mut_ptr(),
+            out.len(),
+            &mut written,
+        )
+    };
+    Sent { number, written }
 }
 
 fn part(command: &[u8], number: u32, at: usize, size: usize) -> Result<&[u8], u32> {

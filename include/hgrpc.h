@@ -1,7 +1,8 @@
-/* The receiving side of one hgrpc channel, for C99 and C++: bytes of the line
- * go in, records come out. The calls are those of the archive libhgrpc.a,
- * which is for x86-64 Linux, as the kit's compiler is, and needs memcpy and
- * memset of its surroundings and nothing else.
+/* Both sides of one hgrpc channel, for C99 and C++. On the receiving side bytes
+ * of the line go in and records come out; the sending side writes a request's
+ * frames. The calls are those of the archive libhgrpc.a, which is for x86-64
+ * Linux, as the kit's compiler is, and needs memcpy and memset of its
+ * surroundings and nothing else.
  *
  * The caller lends every buffer. A buffer is a pointer, which is not NULL also
  * where the length is 0, and a length; the buffers of one call lie apart from
@@ -43,13 +44,20 @@
  *   27  data: id not waiting
  *   28  settings without beginning
  *   29  settings not identity
+ *   50  an even request or stream id
+ *   51  a size outside the range
+ *   52  a command the check would refuse
+ *   53  a command over 2,048 bytes
+ *   54  output too short for the exact total
  *
  * 11 to 29 refuse a frame: the channel is then dead, and the number is its dead
- * number, which every later feed and finish on it answers. */
+ * number, which every later feed and finish on it answers. 50 to 54 are hgrpc_send's,
+ * and leave nothing behind. */
 
 #ifndef HGRPC_H
 #define HGRPC_H
 
+#include <stdbool.h>
 #include <stddef.h>
 #include <stdint.h>
 
@@ -60,6 +68,7 @@ extern "C" {
 #define HGRPC_STATE 179            /* bytes of a state, exactly */
 #define HGRPC_WORK 20488           /* bytes of a work area, at least */
 #define HGRPC_OUTPUT 4103          /* bytes of an output, at least: the longest record */
+#define HGRPC_FRAME_HEAD 8         /* bytes of a frame before its payload */
 #define HGRPC_RECORD_HEAD 7        /* bytes of a record before its command or payload */
 #define HGRPC_COMMAND_LONGEST 2048 /* bytes of a command, at most */
 #define HGRPC_PAYLOAD_LONGEST 4096 /* bytes of a frame's payload, at most */
@@ -112,6 +121,69 @@ uint32_t hgrpc_argument(const uint8_t *command, size_t length,
  * then 6, 7 or 8: `value` is 0. */
 uint32_t hgrpc_integer(const uint8_t *command, size_t length,
                        const uint8_t *key, size_t key_length, int64_t *value);
+
+/* Writes the frames of one request: a command, and data if some follows it.
+ *
+ * The command is the map of `name` and `args`, in this order. `name` is 1 to 64
+ * bytes. `pairs` are the arguments, `count` in number, as encoded CBOR: a key,
+ * which is a byte string, its value, the next key, its value, and so on, with
+ * nothing before, between or behind. Keys differ; values are items of the
+ * subset, of six levels of containers at most, since `args` is in the second;
+ * heads needn't be shortest, and go out as they are. For no arguments `count`
+ * and `pairs_length` are 0.
+ *
+ * `request` is an odd id that is not active at the receiver, and `stream` an odd
+ * stream. With `begin` the first frame begins the stream, which the receiver
+ * wants exactly where the stream is closed; with `end` the last frame ends it.
+ * `size` is the payload of a full frame, 1 to HGRPC_PAYLOAD_LONGEST: every frame
+ * but the last of the command and the last of the data is full, and no frame is
+ * empty but the one of data of length 0. Without `with_data` no data follows:
+ * `data` is not read then, but is no NULL either.
+ *
+ * 0: the frames are the first `written` bytes of the output, and the rest of it
+ * is as it was. Else the first that applies of: 50 `request` or `stream` is even;
+ * 51 `size` is out of range; 52 hgrpc_check would refuse the command, be it for
+ * its name, a `count` that is not the number of pairs there, bytes left over,
+ * a key twice or a value; 53 the command is longer than HGRPC_COMMAND_LONGEST;
+ * 54 the output is shorter than all the frames. With 50 to 54 `written` is 0 and
+ * nothing else changed.
+ *
+ * How long the output must be: the command has L = 11 + H(name_length) +
+ * name_length + H(count) + pairs_length bytes, where the head H(n) is 1 byte to
+ * 23, 2 to 255, 3 to 65,535, and then 5 or 9. It goes out in L / size frames,
+ * rounded up, and `data_length` bytes of data in data_length / size, rounded up,
+ * but 1 at least; each frame has HGRPC_FRAME_HEAD bytes besides. An output of
+ * hgrpc_send_most is always enough. */
+uint32_t hgrpc_send(const uint8_t *name, size_t name_length,
+                    const uint8_t *pairs, size_t pairs_length, uint64_t count,
+                    uint16_t request, uint8_t stream, bool begin, bool end, size_t size,
+                    bool with_data, const uint8_t *data, size_t data_length,
+                    uint8_t *out, size_t out_length, size_t *written);
+
+/* The bytes of the frames of so many bytes of command or data; 0 if they are more
+ * than a size_t counts. The size is not 0. */
+static inline size_t hgrpc_frames_most(size_t length, size_t size)
+{
+    size_t frames = length == 0 ? 1 : (length - 1) / size + 1;
+    if (frames > (SIZE_MAX - length) / HGRPC_FRAME_HEAD)
+        return 0;
+    return length + frames * HGRPC_FRAME_HEAD;
+}
+
+/* The bytes of output that are enough for hgrpc_send, whatever the name and the
+ * pairs: a command that is sent has HGRPC_COMMAND_LONGEST at most. 0 if `size` is
+ * 0, or if they are more than a size_t counts. */
+static inline size_t hgrpc_send_most(size_t size, bool with_data, size_t data_length)
+{
+    size_t command, data;
+    if (size == 0)
+        return 0;
+    command = hgrpc_frames_most(HGRPC_COMMAND_LONGEST, size);
+    if (!with_data)
+        return command;
+    data = hgrpc_frames_most(data_length, size);
+    return data == 0 || data > SIZE_MAX - command ? 0 : data + command;
+}
 
 /* ---- the same with the state as a struct ---- */
 

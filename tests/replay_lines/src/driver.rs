@@ -2,8 +2,8 @@
 
 use crate::room::{Edge, Room};
 use crate::state;
-use crate::words::{bytes, hex, number, parts};
-use hgrpc::{feed_bytes, finish_bytes, fresh_bytes, STATE, WORK};
+use crate::words::{bit, bytes, hex, number, parts};
+use hgrpc::{feed_bytes, finish_bytes, fresh_bytes, send, Request, STATE, WORK};
 use second::bytes as state_bytes;
 
 /// A longer line is bad.
@@ -21,9 +21,13 @@ pub struct Driver {
     output: Room,
     command: Room,
     key: Room,
+    name: Room,
+    pairs: Room,
+    data: Room,
     /// The length of the work area.
     size: usize,
-    /// Of the last feed: the length of its output, and how much it wrote.
+    /// Of the last feed or send: the length of its output, and how much it
+    /// wrote.
     asked: usize,
     written: usize,
 }
@@ -38,6 +42,9 @@ impl Driver {
             output: Room::new(LENT, edge),
             command: Room::new(LINE / 2, edge),
             key: Room::new(LINE / 2, edge),
+            name: Room::new(LINE / 2, edge),
+            pairs: Room::new(LINE / 2, edge),
+            data: Room::new(LINE / 2, edge),
             size: 0,
             asked: 0,
             written: 0,
@@ -74,6 +81,7 @@ impl Driver {
             [b"poke", place, spelled] => self.poke(place, spelled),
             [b"feed", length, spelled] => self.feed(length, spelled),
             [b"finish", id] => self.finish(id),
+            [b"send", ref words @ ..] => self.send(words),
             [b"state"] => Some(self.state_words()),
             [b"tail"] => Some(self.tail()),
             [b"work", from, to] => self.work_part(from, to),
@@ -146,6 +154,42 @@ impl Driver {
         let id = number(id, 65_535)? as u16;
         let number = finish_bytes(self.state.lend(STATE), id);
         Some(format!("finished {number}"))
+    }
+
+    fn send(&mut self, words: &[&[u8]]) -> Option<String> {
+        let [length, name, count, pairs, id, stream, begin, end, size, data] = *words else {
+            return None;
+        };
+        let length = number(length, LENT as u64)? as usize;
+        let (name, pairs) = (bytes(name)?, bytes(pairs)?);
+        let data = match data {
+            b"none" => None,
+            _ => Some(bytes(data)?),
+        };
+        let request = Request {
+            id: number(id, 65_535)? as u16,
+            stream: number(stream, 255)? as u8,
+            begin: bit(begin)?,
+            end: bit(end)?,
+            size: number(size, u64::MAX)? as usize,
+            name: self.name.put(&name),
+            pairs: self.pairs.put(&pairs),
+            count: number(count, u64::MAX)?,
+            data: data.as_ref().map(|data| &*self.data.put(data)),
+        };
+        let output = self.output.lend(length);
+        output.fill(UNWRITTEN);
+        let sent = send(&request, output);
+        assert!(self.name.lent(name.len()) == name, "a name is only read");
+        assert!(self.pairs.lent(pairs.len()) == pairs, "pairs are only read");
+        if let Some(data) = data {
+            assert!(self.data.lent(data.len()) == data, "data is only read");
+        }
+        self.asked = length;
+        self.written = sent.written;
+        let frames = hex(&self.output.lent(length)[..sent.written]);
+        let (number, written) = (sent.number, sent.written);
+        Some(format!("sent {number} {written} {frames}"))
     }
 
     fn tail(&self) -> String {

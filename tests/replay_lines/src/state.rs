@@ -1,7 +1,7 @@
 //! A state as the words of a line: the dead number, the pending count, the
 //! eight slots, and the ids of the open streams.
 
-use crate::words::{number, parts};
+use crate::words::{bit, number, parts};
 use second::bytes::{MOST_LENGTH, MOST_PENDING};
 use second::state::{Phase, Slot, State};
 use std::collections::BTreeSet;
@@ -35,11 +35,7 @@ fn slot(word: &[u8]) -> Option<Slot> {
     Some(Slot {
         id: number(id, 65_535)? as u16,
         phase: known?.1,
-        data: match data {
-            b"0" => false,
-            b"1" => true,
-            _ => return None,
-        },
+        data: bit(data)?,
         length: number(length, MOST_LENGTH)?,
     })
 }

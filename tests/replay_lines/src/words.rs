@@ -16,6 +16,15 @@ pub fn number(word: &[u8], most: u64) -> Option<u64> {
     Some(number).filter(|number| *number <= most)
 }
 
+/// `0` or `1`.
+pub fn bit(word: &[u8]) -> Option<bool> {
+    match word {
+        b"0" => Some(false),
+        b"1" => Some(true),
+        _ => None,
+    }
+}
+
 /// The bytes that a word spells in lower-case hex, `-` for none.
 pub fn bytes(word: &[u8]) -> Option<Vec<u8>> {
     match word {
@@ -73,6 +82,14 @@ mod tests {
             (b"99999999999999999999999", u64::MAX, None),
         ] {
             assert_eq!(number(word, most), answer, "{word:?}");
+        }
+    }
+
+    #[test]
+    fn bits() {
+        assert_eq!((bit(b"0"), bit(b"1")), (Some(false), Some(true)));
+        for word in [&b""[..], b"2", b"00", b"01", b"-"] {
+            assert_eq!(bit(word), None, "{word:?}");
         }
     }
 
