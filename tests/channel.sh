@@ -68,7 +68,7 @@ done < <(grep -E '^\| [0-9]+ \| ' docs/RULES.md)
 
 # The archive has these calls and no others, and needs no more than this.
 calls=$(nm -g --defined-only "$archive" | awk '$2 == "T" { print $3 }' | sort | tr '\n' ' ')
-wanted="hgrpc_argument hgrpc_check hgrpc_feed hgrpc_finish hgrpc_fresh hgrpc_integer hgrpc_name "
+wanted="hgrpc_argument hgrpc_check hgrpc_feed hgrpc_finish hgrpc_fresh hgrpc_integer hgrpc_name hgrpc_send "
 needs=$(nm -u "$archive" | awk '$1 == "U" { print $2 }' | sort | tr '\n' ' ')
 [ "$calls" = "$wanted" ] || { echo "the archive has the calls $calls"; exit 1; }
 [ "$needs" = "memcpy memset " ] || { echo "the archive needs $needs"; exit 1; }

@@ -58,6 +58,22 @@ must_fail() {
     fi
 }
 
+# Has the lines of file $1 answered by `replay` and by the second program $2, and
+# compares the answers, which are then in folder `answers`. Adds their count to
+# `answered`.
+compare_lines() {
+    local lines=$1 second=$2 place
+    "$out/replay" <"$lines" >"$answers/replay.answers"
+    "$second" <"$lines" >"$answers/second.answers"
+    if ! cmp -s "$answers/replay.answers" "$answers/second.answers"; then
+        place=$(cmp "$answers/replay.answers" "$answers/second.answers" 2>&1 | sed -n 's/.*line //p')
+        echo "replay differs from the second program in answer $place to the lines of $lines"
+        diff -a "$answers/replay.answers" "$answers/second.answers" | head -n 4 | cut -c 1-200
+        return 1
+    fi
+    answered=$((answered + $(wc -l <"$answers/replay.answers")))
+}
+
 # Writes file $2, changed by sed's expression $1, to $3.
 change() {
     sed "$1" "$2" >"$3"

@@ -53,6 +53,8 @@ bad=$(grep -c '^bad$' "$out/replay.answers")
 [ "$bad" -ge 1000 ] || { echo "only $bad of the damaged lines are bad"; exit 1; }
 wide=$(grep -acE '^set .*\b65536\b' "$out/lines")
 [ "$wide" -ge 20 ] || { echo "only $wide lines set a number that does not fit"; exit 1; }
+wide=$(grep -acE '^send .* (65536|18446744073709551616) ' "$out/lines")
+[ "$wide" -ge 20 ] || { echo "only $wide lines send a number that does not fit"; exit 1; }
 echo "tests: $answered answers to damaged lines, $bad of them bad, each as the second program's"
 
 # A closed output ends a program on input without end: by the signal (status

@@ -9,6 +9,44 @@ build_second
 rust_program tests/sessions.rs "$out/sessions" "$out"
 rust_program tests/second_replay.rs "$out/second_replay" "$out"
 rust_program tests/programs.rs "$out/programs" "$out"
+
+# Wrong senders, built while the rest goes on. They differ in one file, so the
+# same folder is compiled again for each.
+declare -A wrong_senders=(
+    [size_of_4097]='s/1\.\.=PAYLOAD as u64/1..=4097/'
+    [even_stream]='s/ || request\.stream % 2 == 0//'
+    [length_first]='s/(52, |request| command::check(&request\.command()) != 0)/(53, |request| request.command().len() > COMMAND_BYTES)/; t; s/(53, |request| request\.command()\.len() > COMMAND_BYTES)/(52, |request| command::check(\&request.command()) != 0)/'
+    [longest_of_2049]='s/len() > COMMAND_BYTES/len() > 2049/'
+    [total_more_by_8]='s/if output\.len() < total {/if output.len() < total + 8 {/'
+    [tail_touched]='s/let mut place = 0;/if output.len() > total { output[total] = 0; } &/'
+    [refused_touched]='s/if output\.len() < total {/& output.iter_mut().take(1).for_each(|byte| *byte = 0);/'
+    [long_head]='s/0\.\.=23 =>/0..=22 =>/; s/24\.\.=0xff =>/23..=0xff =>/'
+    [args_before_name]='s/&byte_string(b"name"),/\&byte_string(b"args"), \&head(5, self.count), self.pairs, &/; t; s/^ *&byte_string(b"args"),$//; s/^ *&head(5, self\.count),$//; s/^ *self\.pairs,$//'
+    [data_announced]='s/if data\.is_some() { WITH_DATA } else { 0 }/WITH_DATA/'
+    [new_again]='s/if place == 0 { NEW } else { CONTINUATION }/NEW/'
+    [more_of_whole]='s/if place + 1 < payloads\.len() { MORE } else { 0 }/MORE/'
+    [empty_data_left_out]='s/\[\] => vec!\[bytes\]/[] => vec![]/'
+    [empty_last_frame]='s/let payloads = self\.payloads(data);/let mut payloads = self.payloads(data); if !data.is_empty() \&\& data.len() % self.size as usize == 0 { payloads.push(\&[]); }/'
+    [each_data_last]='s/if last { LAST_DATA } else { MORE_DATA }/LAST_DATA/'
+    [encoding_applied]='s/let mut stream_flags = 0;/let mut stream_flags = 0x04;/'
+    [begin_on_each]='s/self\.begin && place == 0/self.begin/'
+    [end_on_first]='s/self\.end && place == last/self.end \&\& place == 0/'
+)
+build_wrong_senders() {
+    local name folder=$out/wrong/sender
+    mkdir -p "$folder"
+    cp tests/second/src/*.rs "$folder"
+    for name in "${!wrong_senders[@]}"; do
+        change "${wrong_senders[$name]}" tests/second/src/sender.rs "$folder/sender.rs"
+        rustc --edition 2021 -A warnings -C incremental="$folder/incremental" --crate-type rlib \
+            --crate-name second --out-dir "$folder" "$folder/lib.rs"
+        rustc --edition 2021 -o "$folder/$name" --extern second="$folder/libsecond.rlib" tests/second_replay.rs
+    done
+}
+build_wrong_senders &
+senders=$!
+wrongs=$((wrongs + ${#wrong_senders[@]}))
+
 "$out/sessions" traces
 "$out/sessions" check 1 "$sessions"
 must_fail '^sessions: ' "$out/sessions" check 1 3
@@ -70,3 +108,4 @@ wrong_notation=$copy
 wrong_copy quotes capture.rs "s/'\\\\'' | //"
 rust_program tests/programs.rs "$copy/programs" "$copy"
 wrong_quotes=$copy
+wait "$senders"

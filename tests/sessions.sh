@@ -10,21 +10,6 @@
 "$out/sessions" traces "$out/replay"
 must_fail 'T3: state' "$out/sessions" traces "${wrong_receivers[0]}/second_replay"
 
-# Has the lines of file $1 answered by `replay` and by the second program $2, and
-# compares the answers. Adds their count to `answered`.
-compare_lines() {
-    local lines=$1 second=$2 place
-    "$out/replay" <"$lines" >"$out/replay.answers"
-    "$second" <"$lines" >"$out/second.answers"
-    if ! cmp -s "$out/replay.answers" "$out/second.answers"; then
-        place=$(cmp "$out/replay.answers" "$out/second.answers" 2>&1 | sed -n 's/.*line //p')
-        echo "replay differs from the second program in answer $place to the lines of $lines"
-        diff -a "$out/replay.answers" "$out/second.answers" | head -n 4 | cut -c 1-200
-        return 1
-    fi
-    answered=$((answered + $(wc -l <"$out/replay.answers")))
-}
-
 # As many sessions, by seeds from $1 to $2.
 compare_sessions() {
     local seed
@@ -35,6 +20,7 @@ compare_sessions() {
 }
 
 answered=0
+answers=$out
 compare_sessions 1 1
 for copy in "${wrong_receivers[@]}"; do
     must_fail '^replay differs' compare_lines "$out/lines" "$copy/second_replay"

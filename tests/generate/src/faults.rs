@@ -81,7 +81,7 @@ pub fn shape(draft: &mut Draft, random: &mut Random) {
 }
 
 /// A key or member that is no byte string.
-fn other_plain(random: &mut Random) -> Item {
+pub fn other_plain(random: &mut Random) -> Item {
     match random.below(2) {
         0 => item::integer(random),
         _ => Item::Simple(random.pick(&[0xf4, 0xf5, 0xf6])),
@@ -183,7 +183,8 @@ fn put_somewhere(draft: &mut Draft, random: &mut Random, raw: Item) {
     }
 }
 
-fn no_item(random: &mut Random) -> Vec<u8> {
+/// Bytes that are no item of the subset as the value of an argument.
+pub fn no_item(random: &mut Random) -> Vec<u8> {
     match random.below(12) {
         0 => reserved(random),
         1 => indefinite(random),

@@ -1,18 +1,22 @@
 //! Lines of `replay`, damaged.
 
 use crate::random::Random;
+use crate::sends::sending;
 use crate::sessions::session;
 
 /// The longest line that is read has this many characters.
 const LONGEST: usize = 300_000;
 
-/// The lines of a session, of which every third or so is damaged, and
-/// between them lines of any bytes.
+/// The lines of a session and of a few requests to be sent, of which every
+/// third or so is damaged, and between them lines of any bytes.
 pub fn garbled(seed: u64, index: u64) -> Vec<u8> {
     let start = Random::new(seed ^ 0x6a5b).next() ^ Random::new(!index).next();
     let random = &mut Random::new(start);
     let mut text = Vec::new();
-    for line in session(seed, index) {
+    let sends = (3 * index..3 * index + 3).map(|index| sending(seed, index).line());
+    let short = sends.filter(|line| line.len() < 10_000);
+    let looked = short.flat_map(|line| [line, "tail".to_string()]);
+    for line in session(seed, index).into_iter().chain(looked) {
         if line.starts_with("set ") && random.percent(20) {
             text.extend(too_wide(&line, random).into_bytes());
             text.push(b'\n');
@@ -97,13 +101,20 @@ fn noise(random: &mut Random) -> Vec<u8> {
     if random.percent(50) {
         return random.bytes(count);
     }
-    let signs = b"0123456789abcdef fresh set feed poke state -:,#";
+    let signs = b"0123456789abcdef fresh set feed poke send none state -:,#";
     (0..count).map(|_| random.pick(signs)).collect()
 }
 
 /// About as long as the longest line, or far longer.
 fn long(random: &mut Random) -> Vec<u8> {
-    let word = random.pick::<&[u8]>(&[b"check ", b"feed 5000 ", b"poke 0 ", b"# ", b""]);
+    let word = random.pick::<&[u8]>(&[
+        b"check ",
+        b"feed 5000 ",
+        b"poke 0 ",
+        b"send 9 61 0 - 1 1 0 0 9 ",
+        b"# ",
+        b"",
+    ]);
     let count = match random.below(4) {
         0 => 3 * LONGEST,
         _ => LONGEST - word.len() - 2 + random.below(5),

@@ -1,7 +1,7 @@
 //! Makes commands to compare two readers on: good ones, ones with a known
 //! fault, and damaged ones; sessions of a channel, as lines of `replay`, and
-//! the same lines damaged; and captures of the line. The same seed and index
-//! give the same ones on every machine.
+//! the same lines damaged; captures of the line; and requests to be sent. The
+//! same seed and index give the same ones on every machine.
 
 mod captures;
 mod client;
@@ -13,6 +13,7 @@ mod garbled;
 mod item;
 mod random;
 mod refused;
+mod sends;
 mod sessions;
 mod starts;
 
@@ -20,6 +21,7 @@ pub use captures::capture;
 pub use commands::case;
 pub use garbled::garbled;
 pub use random::Random;
+pub use sends::{sending, Sending, FAULTS};
 pub use sessions::session;
 
 /// A command, and a key to look up in it.

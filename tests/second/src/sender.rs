@@ -36,9 +36,7 @@ type Refused = fn(&Request) -> bool;
 /// The refusals that do not ask for the output, in their order.
 const REFUSALS: [(u8, Refused); 4] = [
     (50, |request| request.id % 2 == 0 || request.stream % 2 == 0),
-    (51, |request| {
-        request.size < 1 || request.size > PAYLOAD as u64
-    }),
+    (51, |request| !(1..=PAYLOAD as u64).contains(&request.size)),
     (52, |request| command::check(&request.command()) != 0),
     (53, |request| request.command().len() > COMMAND_BYTES),
 ];
@@ -138,7 +136,7 @@ pub fn send(request: &Request, output: &mut [u8]) -> Sent {
         };
     }
     let frames = request.frames();
-    let total = frames.iter().map(|frame| frame.bytes().len()).sum();
+    let total: usize = frames.iter().map(|frame| frame.bytes().len()).sum();
     if output.len() < total {
         return Sent {
             number: 54,

@@ -1,0 +1,21 @@
+# Requests to be sent, as lines: the archive, through the program of tests/replay,
+# against the second program; and what the archive wrote, read by the archive.
+
+# What the requests meet, and that the second receiver reads what the second
+# sender wrote.
+rust_program tests/sends.rs "$out/sends" "$out"
+"$out/sends" check 1 "$sends"
+must_fail 'too seldom' "$out/sends" check 1 30
+
+answered=0
+answers=$out/sent
+mkdir "$answers"
+"$out/sends" make 1 "$sends" >"$answers/lines"
+compare_lines "$answers/lines" "$out/second_replay"
+echo "tests: $sends requests sent, $answered answers of replay, each as the second program's"
+
+# A wrong sender is found out by the first of them.
+head -n 400 "$answers/lines" >"$answers/first"
+for name in "${!wrong_senders[@]}"; do
+    must_fail '^replay differs' compare_lines "$answers/first" "$out/wrong/sender/$name"
+done

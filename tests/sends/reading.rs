@@ -1,0 +1,52 @@
+//! What was sent, read by the second implementation's plain receiver, which is
+//! ready for it.
+
+use second::receiver::Uncut;
+use second::sender::Request;
+use second::state::{State, WORK};
+
+/// The records that the request comes to.
+fn records(request: &Request) -> Vec<u8> {
+    let mut records = Vec::new();
+    let mut add = |kind: u16, bit: bool, content: &[u8]| {
+        for number in [3 + content.len() as u16, kind, request.id] {
+            records.extend(number.to_le_bytes());
+        }
+        records.push(bit.into());
+        records.extend(content);
+    };
+    add(1, request.data.is_some(), &request.command());
+    if let Some(data) = request.data {
+        let size = request.size as usize;
+        let more = data.len().saturating_sub(1) / size * size;
+        for payload in data[..more].chunks(size) {
+            add(2, false, payload);
+        }
+        add(2, true, &data[more..]);
+    }
+    records
+}
+
+/// Has all that was written read.
+pub fn read(request: &Request, frames: &[u8]) -> Result<(), String> {
+    let mut state = State::fresh();
+    if !request.begin {
+        state.open.insert(request.stream);
+    }
+    let mut receiver = Uncut::start(state, vec![0; WORK]);
+    for byte in frames {
+        receiver.byte(*byte);
+    }
+    let state = &receiver.state;
+    if state.dead != 0 || state.pending != 0 || receiver.records != records(request) {
+        let dead = state.dead;
+        return Err(format!("the receiver reads something else, dead {dead}"));
+    }
+    if state.open.contains(&request.stream) == request.end {
+        return Err("the stream is not left as was wished".to_string());
+    }
+    match receiver.finish(request.id) {
+        0 => Ok(()),
+        number => Err(format!("finish answers {number}")),
+    }
+}
