@@ -256,6 +256,136 @@ static void lookups(void)
     IS(value, 0);
 }
 
+/* What was asked for is in `b.out`, whose other bytes are all 0xa5. */
+static void is_sent(int line, uint32_t number, size_t written, const char *wanted, size_t length)
+{
+    size_t i;
+    is(line, number, 0);
+    is(line, (long long)written, (long long)length);
+    is(line, memcmp(b.out, wanted, length), 0);
+    for (i = written; i < sizeof b.out; i++)
+        is(line, b.out[i], 0xa5);
+    memset(b.out, 0xa5, sizeof b.out);
+}
+#define SENT(call, wanted) \
+    do { \
+        uint32_t number = call; \
+        is_sent(__LINE__, number, written, wanted, sizeof(wanted) - 1); \
+    } while (0)
+
+/* The request is refused with this number, and no byte of `b.out` is written. */
+static void is_refused(int line, uint32_t wanted, uint32_t number, size_t written)
+{
+    size_t i;
+    is(line, number, wanted);
+    is(line, (long long)written, 0);
+    for (i = 0; i < sizeof b.out; i++)
+        is(line, b.out[i], 0xa5);
+}
+#define REFUSED(wanted, call) \
+    do { \
+        uint32_t number; \
+        written = 9; \
+        number = call; \
+        is_refused(__LINE__, wanted, number, written); \
+    } while (0)
+
+#define NO_DATA false, BYTES("")
+#define OUT(length) b.out, length, &written
+
+static void sent(void)
+{
+    size_t written = 9;
+    memset(b.out, 0xa5, sizeof b.out);
+    SENT(hgrpc_send(BYTES("set"), BYTES(""), 0, 1, 1, true, false, 4096, NO_DATA, OUT(24)), T1);
+    SENT(hgrpc_send(BYTES("set"), BYTES(""), 0, 1, 1, true, false, 16, NO_DATA, OUT(99)), T1);
+    /* Frames of eight bytes; data that fills one, empty data, and data of nine. */
+    SENT(hgrpc_send(BYTES("set"), BYTES(""), 0, 0x0201, 3, true, true, 8, true, BYTES("ninebyte"), OUT(48)),
+         "\x8\0\0\1\2\3\1\x1d" "\xa2\x44" "name\x43" "s" "\x8\0\0\1\2\3\0\x1a" "et\x44" "args\xa0"
+         "\x8\0\0\1\2\3\2\x22" "ninebyte");
+    SENT(hgrpc_send(BYTES("set"), BYTES(""), 0, 1, 1, false, true, 16, true, BYTES(""), OUT(32)),
+         "\x10\0\0\1\0\1\0\x19" COMMAND "\0\0\0\1\0\1\2\x22");
+    SENT(hgrpc_send(BYTES("set"), BYTES("\x41k\x05"), 1, 1, 1, false, false, 19, true, BYTES("ninebytes"), OUT(99)),
+         "\x13\0\0\1\0\1\0\x19" "\xa2" NAME "\x44" "args\xa1\x41k\x05"
+         "\x9\0\0\1\0\1\0\x22" "ninebytes");
+}
+
+/* Each request has a reason for its number and for those above it. */
+static void refused_requests(void)
+{
+    static uint8_t pairs[5 + HGRPC_COMMAND_LONGEST] = "\x41k\x59\x8\0";
+    static const uint64_t most = ~(uint64_t)0;
+    size_t written;
+    REFUSED(50, hgrpc_send(BYTES(""), BYTES(""), 1, 2, 1, true, true, 0, NO_DATA, OUT(0)));
+    REFUSED(50, hgrpc_send(BYTES(""), BYTES(""), 1, 1, 2, true, true, 0, NO_DATA, OUT(0)));
+    REFUSED(51, hgrpc_send(BYTES(""), BYTES(""), 1, 1, 1, true, true, 0, NO_DATA, OUT(0)));
+    REFUSED(51, hgrpc_send(BYTES(""), BYTES(""), 1, 1, 1, true, true, 4097, NO_DATA, OUT(0)));
+    REFUSED(51, hgrpc_send(BYTES("a"), BYTES(""), 0, 1, 1, true, true, SIZE_MAX, NO_DATA, OUT(99)));
+    REFUSED(52, hgrpc_send(BYTES(""), BYTES(""), 0, 1, 1, true, true, 1, NO_DATA, OUT(0)));
+    REFUSED(52, hgrpc_send(BYTES("a"), pairs, sizeof pairs, 2, 1, 1, true, true, 1, NO_DATA, OUT(0)));
+    REFUSED(52, hgrpc_send(BYTES("a"), BYTES(""), most, 1, 1, true, true, 1, NO_DATA, OUT(99)));
+    REFUSED(52, hgrpc_send(BYTES("a"), BYTES("\x41k\x05"), 0, 1, 1, true, true, 1, NO_DATA, OUT(99)));
+    REFUSED(53, hgrpc_send(BYTES("a"), pairs, sizeof pairs, 1, 1, 1, true, true, 1, NO_DATA, OUT(0)));
+    REFUSED(54, hgrpc_send(BYTES("a"), BYTES(""), 0, 1, 1, true, true, 1, NO_DATA, OUT(0)));
+    REFUSED(54, hgrpc_send(BYTES("set"), BYTES(""), 0, 1, 1, true, true, 4096, NO_DATA, OUT(23)));
+    REFUSED(54, hgrpc_send(BYTES("set"), BYTES(""), 0, 1, 1, true, true, 4096, true, BYTES(""), OUT(31)));
+}
+
+/* The longest command in frames of every size, with data: what hgrpc_send_most
+ * asks for is just enough. */
+static void most_output(void)
+{
+    static uint8_t frames[9 * (HGRPC_COMMAND_LONGEST + 99)];
+    static uint8_t pairs[HGRPC_COMMAND_LONGEST - 16] = "\x41k\x59\x7\xeb";
+    size_t size, written;
+    for (size = 1; size <= HGRPC_PAYLOAD_LONGEST; size++) {
+        size_t most = hgrpc_send_most(size, true, 99);
+        IS(hgrpc_send(BYTES("set"), pairs, sizeof pairs, 1, 1, 1, true, true, size, true, pairs, 99, frames,
+                      most, &written), 0);
+        IS(written, most);
+        IS(hgrpc_send(BYTES("set"), pairs, sizeof pairs, 1, 1, 1, true, true, size, true, pairs, 99, frames,
+                      most - 1, &written), 54);
+        IS(hgrpc_send_most(size, false, 99), hgrpc_frames_most(HGRPC_COMMAND_LONGEST, size));
+    }
+    IS(hgrpc_send_most(4096, false, 0), 2056);
+    IS(hgrpc_send_most(4096, true, 0), 2064);
+    IS(hgrpc_send_most(4096, true, 4096), 2056 + 4104);
+    IS(hgrpc_send_most(4096, true, 4097), 2056 + 4113);
+    IS(hgrpc_send_most(0, true, 0), 0);
+    IS(hgrpc_send_most(1, true, SIZE_MAX / 9 + 1), 0);
+    IS(hgrpc_send_most(1, true, SIZE_MAX / 9), 0);
+    IS(hgrpc_send_most(4096, true, SIZE_MAX), 0);
+    IS(hgrpc_send_most(SIZE_MAX, true, SIZE_MAX - 8), 0);
+}
+
+/* What is sent is received as that very command and data. */
+static void sent_and_received(void)
+{
+    static uint8_t line[999];
+    size_t written, place = 0;
+    hgrpc_record record;
+    hgrpc_fed fed;
+    IS(hgrpc_send(BYTES("set"), BYTES("\x41k\x05"), 1, 7, 9, true, true, 5, true, BYTES("hi"), line,
+                  sizeof line, &written), 0);
+    hgrpc_channel_fresh(&b.state);
+    fed = hgrpc_channel_feed(&b.state, b.work, sizeof b.work, line, written, b.out, sizeof b.out);
+    IS(fed.number, 0);
+    IS(fed.taken, written);
+    IS(hgrpc_next_record(b.out, fed.written, &place, &record), 1);
+    IS(record.kind, HGRPC_KIND_COMMAND);
+    IS(record.request, 7);
+    IS(record.bit, 1);
+    IS(record.length, 19);
+    IS(memcmp(record.bytes, "\xa2" NAME "\x44" "args\xa1\x41k\x05", 19), 0);
+    IS(hgrpc_next_record(b.out, fed.written, &place, &record), 1);
+    IS(record.kind, HGRPC_KIND_DATA);
+    IS(record.bit, 1);
+    IS(record.length, 2);
+    IS(memcmp(record.bytes, "hi", 2), 0);
+    IS(hgrpc_next_record(b.out, fed.written, &place, &record), 0);
+    IS(hgrpc_channel_finish(&b.state, 7), 0);
+}
+
 int main(void)
 {
     first_trace(3);
@@ -268,6 +398,10 @@ int main(void)
     accepted();
     cut_records();
     lookups();
+    sent();
+    refused_requests();
+    most_output();
+    sent_and_received();
     printf("calls: %u answers, each as the rules have it\n", answers);
     return 0;
 }

@@ -4,7 +4,7 @@
 #[path = "../bindings/hgrpc.rs"]
 mod hgrpc;
 
-use hgrpc::{records, Fed, Kind, Record, State, OUTPUT, STATE, WORK};
+use hgrpc::{records, send, Fed, Kind, Record, Request, Sent, State, OUTPUT, STATE, WORK};
 
 const COMMAND: &[u8] = b"\xa2\x44name\x43set\x44args\xa0";
 const WITH_ARGUMENTS: &[u8] =
@@ -117,6 +117,114 @@ fn lookups() {
     }
 }
 
+/// A request without arguments or data.
+const REQUEST: Request = Request {
+    id: 1,
+    stream: 1,
+    begin: true,
+    end: false,
+    size: 4096,
+    name: b"set",
+    pairs: b"",
+    count: 0,
+    data: None,
+};
+
+/// What is sent into an output of a length, all else of which stays.
+fn sent(request: &Request, length: usize) -> Result<Vec<u8>, u32> {
+    let mut out = vec![0xa5; length];
+    let Sent { number, written } = send(request, &mut out);
+    assert!(out[written..].iter().all(|byte| *byte == 0xa5));
+    out.truncate(written);
+    match number {
+        0 => Ok(out),
+        _ => {
+            assert_eq!(written, 0);
+            Err(number)
+        }
+    }
+}
+
+fn sends() {
+    let first = frame(1, 1, 0x11, COMMAND);
+    assert_eq!(sent(&REQUEST, 24), Ok(first.clone()));
+    assert_eq!(sent(&REQUEST, 99), Ok(first));
+    assert_eq!(sent(&REQUEST, 23), Err(54));
+    let cut = Request {
+        size: 8,
+        end: true,
+        data: Some(b"ninebytes"),
+        ..REQUEST
+    };
+    let frames = [
+        frame(1, 1, 0x1d, &COMMAND[..8]),
+        frame(1, 0, 0x1a, &COMMAND[8..]),
+        frame(1, 0, 0x21, b"ninebyte"),
+        frame(1, 2, 0x22, b"s"),
+    ];
+    assert_eq!(sent(&cut, 57), Ok(frames.concat()));
+    let empty = Request {
+        data: Some(b""),
+        ..REQUEST
+    };
+    let frames = [frame(1, 1, 0x19, COMMAND), frame(1, 0, 0x22, b"")];
+    assert_eq!(sent(&empty, 32), Ok(frames.concat()));
+}
+
+/// Each request has a reason for its number and for those above it.
+fn refused_requests() {
+    let pairs = [&b"\x41k\x59\x08\0"[..], &[7; 2048]].concat();
+    let all = Request {
+        id: 2,
+        size: 0,
+        name: b"",
+        pairs: &pairs,
+        ..REQUEST
+    };
+    let stream = Request {
+        id: 1,
+        stream: 2,
+        ..all
+    };
+    let small = Request { id: 1, ..all };
+    let large = Request {
+        size: 4097,
+        ..small
+    };
+    let nameless = Request { size: 1, ..small };
+    let counted = Request {
+        name: b"set",
+        count: u64::MAX,
+        ..nameless
+    };
+    let long = Request {
+        count: 1,
+        ..counted
+    };
+    let answers = [all, stream, small, large, nameless, counted, long, REQUEST];
+    let answers = answers.map(|request| sent(&request, 5));
+    assert_eq!(answers, [50, 50, 51, 51, 52, 52, 53, 54].map(Err));
+}
+
+/// The longest command, with data: `most` is just enough.
+fn most() {
+    let pairs = [&b"\x41k\x59\x07\xeb"[..], &[7; 2027]].concat();
+    for size in [1, 2, 7, 100, 2047, 2048, 4096] {
+        let request = Request {
+            pairs: &pairs,
+            count: 1,
+            size,
+            data: Some(&pairs[..200]),
+            ..REQUEST
+        };
+        let most = request.most().expect("it can be counted");
+        assert_eq!(sent(&request, most).map(|out| out.len()), Ok(most));
+        assert_eq!(sent(&request, most - 1), Err(54));
+    }
+    assert_eq!(REQUEST.most(), Some(2056));
+    assert_eq!(Request { size: 0, ..REQUEST }.most(), None);
+}
+
 fn main() {
     for piece in [1, 3, 9, 24] {
         first_trace(piece);
@@ -125,5 +233,8 @@ fn main() {
     refused_calls();
     cut_records();
     lookups();
+    sends();
+    refused_requests();
+    most();
     println!("calls (Rust): each answer as the rules have it");
 }

@@ -7,13 +7,13 @@ sanitizers=(-g -fsanitize=address,undefined -fno-sanitize-recover=all)
 
 # Guard pages, and that they would be noticed.
 archive_program tests/guard.rs "$out/guard" "$out"
-"$out/guard" run 5 2000 20000
+"$out/guard" run 5 2000 20000 5000
 "$out/guard" over
-must_fail 'never came up' "$out/guard" run 5 20 20
+must_fail 'never came up' "$out/guard" run 5 20 20 20
 copy=${wrong_receivers[0]}
 build_lines "$copy"
 archive_program tests/guard.rs "$copy/guard" "$copy"
-must_fail '^guard: difference' "$copy/guard" run 5 2000 0
+must_fail '^guard: difference' "$copy/guard" run 5 2000 0 0
 
 # Any bytes as a state.
 archive_program tests/states.rs "$out/states" "$out"
@@ -46,6 +46,9 @@ change 's/(self\.kind == Kind::Command) != self\.bit/!self.bit/' bindings/hgrpc.
 change 's|\.\./bindings/|bindings/|' tests/calls.rs "$out/wrong/calls.rs"
 rust -o "$out/wrong/calls_rust" -L native=target/staticlib -l static=hgrpc "$out/wrong/calls.rs"
 must_fail 'assertion failed: record.runs()' "$out/wrong/calls_rust"
+change 's/request\.data\.is_some(),/true,/' bindings/hgrpc.rs "$out/wrong/bindings/hgrpc.rs"
+rust -o "$out/wrong/calls_rust" -L native=target/staticlib -l static=hgrpc "$out/wrong/calls.rs"
+must_fail 'assertion `left == right` failed' "$out/wrong/calls_rust"
 
 # A reader of records that looks past the count is noticed.
 mkdir "$out/wrong/reader"

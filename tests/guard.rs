@@ -2,9 +2,9 @@
 //! touched: right before it, and right behind it. A read or write outside the
 //! lent bytes ends the program by a signal.
 //!
-//!     guard run SEED SESSIONS COMMANDS   answers are held to the second implementation
-//!     guard over                         one byte more of each buffer than there is ends the program
-//!     guard lend BUFFER                  lends one byte more of BUFFER, for `over`
+//!     guard run SEED SESSIONS COMMANDS SENDS   answers are held to the second implementation
+//!     guard over                               one byte more of each buffer than there is ends the program
+//!     guard lend BUFFER                        lends one byte more of BUFFER, for `over`
 
 #[path = "guard/met.rs"]
 mod met;
@@ -49,7 +49,7 @@ impl Sides {
     }
 }
 
-fn run(seed: u64, sessions: u64, commands: u64) {
+fn run(seed: u64, sessions: u64, commands: u64, sends: u64) {
     let mut sides = Sides {
         drivers: EDGES.map(Driver::new),
         second: Replay::default(),
@@ -76,12 +76,18 @@ fn run(seed: u64, sessions: u64, commands: u64) {
             sides.line(&line);
         }
     }
+    // Each output is asked about: past what was written it is as it was, and
+    // all of it where the request was refused.
+    for index in 0..sends {
+        sides.line(&generate::sending(seed, index).line());
+        sides.line("tail");
+    }
     EDGES.into_iter().for_each(other_states);
     if let Some(missing) = sides.met.missing() {
         fail(&format!("{missing} never came up"));
     }
     let answers = sides.answers;
-    println!("guard: {sessions} sessions, {commands} commands, {answers} answers at each edge, no byte outside touched");
+    println!("guard: {sessions} sessions, {commands} commands, {sends} sends, {answers} answers at each edge, no byte outside touched");
 }
 
 /// States of other lengths than a state has: 3, or 2 if the work area is too
@@ -117,11 +123,14 @@ fn main() {
     let words: Vec<&str> = arguments.iter().map(String::as_str).collect();
     let number = |word: &str| word.parse().expect("a number");
     match words[..] {
-        ["run", seed, sessions, commands] => {
-            run(number(seed), number(sessions), number(commands));
-        }
+        ["run", seed, sessions, commands, sends] => run(
+            number(seed),
+            number(sessions),
+            number(commands),
+            number(sends),
+        ),
         ["over"] => over::each(),
         ["lend", buffer] => over::lend(buffer),
-        _ => fail("run SEED SESSIONS COMMANDS, over or lend BUFFER"),
+        _ => fail("run SEED SESSIONS COMMANDS SENDS, over or lend BUFFER"),
     }
 }

@@ -19,3 +19,9 @@ head -n 400 "$answers/lines" >"$answers/first"
 for name in "${!wrong_senders[@]}"; do
     must_fail '^replay differs' compare_lines "$answers/first" "$out/wrong/sender/$name"
 done
+
+# What the archive wrote is received again.
+archive_program tests/round_trip.rs "$out/round_trip" "$out"
+"$out/round_trip" run 1 "$sends"
+must_fail '^round trip: seed 1, request [0-9]*: ' "$out/round_trip" damaged 1 20
+must_fail 'too seldom' "$out/round_trip" run 1 100

@@ -3,6 +3,11 @@
 
 use std::collections::BTreeSet;
 
+/// The answers that begin with a number.
+const NUMBERED: [&str; 7] = [
+    "fed", "finished", "checked", "named", "argument", "integer", "sent",
+];
+
 #[derive(Default)]
 pub struct Met {
     seen: BTreeSet<(String, usize)>,
@@ -20,10 +25,8 @@ impl Met {
     pub fn line(&mut self, line: &str, answer: &str) {
         let asked: Vec<&str> = line.split(' ').collect();
         let told: Vec<&str> = answer.split(' ').collect();
-        if let ["fed" | "finished" | "checked" | "named" | "argument" | "integer", number, ..] =
-            told[..]
-        {
-            self.see(told[0], number.parse().expect("a number"));
+        if NUMBERED.contains(&told[0]) {
+            self.see(told[0], told[1].parse().expect("a number"));
         }
         match (told[0], &asked[..]) {
             ("fresh", [_, length, ..]) => self.see("work", length.parse().expect("a number")),
@@ -34,6 +37,17 @@ impl Met {
             ("argument", [_, command, key]) => {
                 self.see("command", spelled(command));
                 self.see("key", spelled(key));
+            }
+            ("sent", [_, length, name, _, pairs, .., data]) => {
+                self.see("name", spelled(name));
+                self.see("pairs", spelled(pairs));
+                self.see("frames", length.parse().expect("a number"));
+                if *data != "none" {
+                    self.see("data", spelled(data));
+                }
+                if told[2] == *length && told[1] == "0" {
+                    self.see("filled", 1);
+                }
             }
             _ => {}
         }
@@ -47,7 +61,7 @@ impl Met {
     pub fn missing(&self) -> Option<String> {
         let fed = [0, 1, 2, 3, 5].into_iter().chain(11..=29).collect();
         let finished = [0, 3, 4].into_iter().chain(11..=29).collect();
-        let wanted: [(&str, Vec<usize>); 11] = [
+        let wanted: [(&str, Vec<usize>); 17] = [
             ("fed", fed),
             ("finished", finished),
             ("checked", vec![0, 24, 25, 26]),
@@ -59,6 +73,12 @@ impl Met {
             ("input", vec![0, 1, 7, 8, 9]),
             ("command", vec![0, 1]),
             ("key", vec![0, 1]),
+            ("sent", vec![0, 50, 51, 52, 53, 54]),
+            ("name", vec![0, 1, 64, 65]),
+            ("pairs", vec![0]),
+            ("data", vec![0, 1]),
+            ("frames", vec![0, 1, 7, 8]),
+            ("filled", vec![1]),
         ];
         let mut wanted = wanted
             .into_iter()

@@ -66,6 +66,9 @@ pub fn lines() -> Vec<String> {
     lines.extend(["state", "tail", "worksum"].map(String::from));
     lines.push(format!("arg {command} 6b"));
     lines.push(format!("name {command}"));
+    let [name, pairs, data] = [NAME, PAIRS, &DATA].map(to_hex);
+    let send = format!("send {TOTAL} {name} 1 {pairs} 1 1 1 1 4096 {data}");
+    lines.extend([send, "tail".to_string()]);
     lines
 }
 
@@ -144,16 +147,58 @@ fn lookups(over: &str) {
     assert_eq!((number, at, size), (0, bytes.len() - 1, 1));
 }
 
+/// A request whose frames take as much output as there is: the command's, and
+/// a longest data frame.
+const NAME: &[u8] = b"set";
+const PAIRS: &[u8] = b"\x41k\x05";
+const DATA: [u8; hgrpc::PAYLOAD_LONGEST] = [9; hgrpc::PAYLOAD_LONGEST];
+const TOTAL: usize = 2 * hgrpc::FRAME_HEAD + 16 + PAIRS.len() + DATA.len();
+
+fn sends(over: &str) {
+    let mut name = Lent::new("name", NAME, over);
+    let mut pairs = Lent::new("pairs", PAIRS, over);
+    let mut data = Lent::new("data", &DATA, over);
+    let mut frames = Lent::new("frames", &[0; TOTAL], over);
+    let mut written = 0;
+    // As above.
+    let number = unsafe {
+        raw::hgrpc_send(
+            name.pointer(),
+            name.length,
+            pairs.pointer(),
+            pairs.length,
+            1,
+            1,
+            1,
+            true,
+            true,
+            hgrpc::PAYLOAD_LONGEST,
+            true,
+            data.pointer(),
+            data.length,
+            frames.pointer(),
+            frames.length,
+            &mut written,
+        )
+    };
+    assert_eq!((number, written), (0, TOTAL));
+}
+
 /// Makes the calls with a byte too many of one buffer.
 pub fn lend(over: &str) {
     feeds(over);
     lookups(over);
+    sends(over);
 }
 
 /// Makes them with each buffer in turn, in a program of its own, which a touched
 /// page must end; and with none, which must come to its end.
 pub fn each() {
-    for buffer in ["none", "state", "work", "input", "output", "command", "key"] {
+    const BUFFERS: [&str; 11] = [
+        "none", "state", "work", "input", "output", "command", "key", "name", "pairs", "data",
+        "frames",
+    ];
+    for buffer in BUFFERS {
         let program = std::env::current_exe().expect("a program knows its place");
         let ended = Command::new(program).args(["lend", buffer]).status();
         let ended = ended.expect("the program starts");
