@@ -78,9 +78,8 @@ needs=$(nm -u "$archive" | awk '$1 == "U" { print $2 }' | sort | tr '\n' ' ')
 
 # The board, built and run by the README's own lines, and with the sanitizers.
 section=$(sed -n "/^## A board's main loop in C$/,/^## Call/p" README.md)
-block() { awk -v wanted="$1" '/^```/ { n++; next } n == 2 * wanted - 1' <<<"$section"; }
-shown=$(block 2)
-printed=$(bash -euc "$(block 1)")
+shown=$(block "$section" 2)
+printed=$(bash -euc "$(block "$section" 1)")
 [ -n "$shown" ] && [ "$printed" = "$shown" ] || {
     printf 'the README shows something else than its lines print:\n%s\n' "$printed"
     exit 1

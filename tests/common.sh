@@ -74,6 +74,9 @@ compare_lines() {
     answered=$((answered + $(wc -l <"$answers/replay.answers")))
 }
 
+# Block number $2 of those between lines ``` in the text $1.
+block() { awk -v wanted="$2" '/^```/ { n++; next } n == 2 * wanted - 1' <<<"$1"; }
+
 # Writes file $2, changed by sed's expression $1, to $3.
 change() {
     sed "$1" "$2" >"$3"

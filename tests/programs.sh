@@ -88,6 +88,89 @@ ends_with 1 "$replay" yes state 2>"$out/errors"
 grep -q '^the output cannot be written$' "$out/errors"
 must_fail '^the input cannot be read$' "$replay" </
 
+# What send writes is what receive reads: by the README's own command, of which
+# the archive is there already, and then with each kind of word.
+section=$(sed -n '/^## See it work$/,/^## Test everything$/p' README.md)
+together=$(block "$section" 3)
+[[ $together == 'rt staticlib hgrpc | grep ^rt: &&'* ]] || { echo "the README does not build send"; exit 1; }
+shown=$(block "$section" 4)
+printed=$(bash -euc "${together#*&&}")
+[ -n "$shown" ] && [ "$printed" = "$shown" ] || {
+    printf 'the README shows something else than send and receive print:\n%s\n' "$printed"
+    exit 1
+}
+send=target/send
+
+# Runs send with the arguments behind $1; receive makes $1 of what it writes.
+reads_back() {
+    local wanted=$1 text
+    shift
+    text=$("$send" "$@" | "$receive") || { echo "send ended with $?: $*"; return 1; }
+    [ "$text" = "$wanted" ] || {
+        printf 'send and receive wrote\n%s\nand not\n%s\nof: %s\n' "$text" "$wanted" "$*"
+        return 1
+    }
+}
+reads_back "command 1 data 0 name 'off' args {}" off
+reads_back "command 1 data 0 name 'a' args {'x': -18446744073709551616, 'y': 18446744073709551615, 'z': 7, 'w': 0}" \
+    a x=-18446744073709551616 y=18446744073709551615 z=007 w=-0
+reads_back "command 1 data 0 name 'a' args {'f': false, 'n': null, 't': 'text', 'e': '', 'm': '=', 'd': '-', 'p': '+3'}" \
+    a f=false n=null t=text e= m== d=- p=+3
+reads_back "command 1 data 0 name 'a' args {'s': '12', 't': 'true', 'h': h'00ff', 'n': '', 'q': h'27'}" \
+    a "s='12'" "t='true'" "h=h'00Ff'" "n=''" "q='"
+reads_back "command 65535 data 0 name '--x' args {'--y': 1}" --stream 255 --size 1 --request 65535 -- --x --y=1
+reads_back "command 3 data 1 name 'up' args {'track': 7}
+data 3 last 0 4 bytes 'slow'
+data 3 last 1 2 bytes 'er'" --request 3 --size 4 up --data - track=7 < <(printf slower)
+reads_back "command 1 data 1 name 'up' args {}
+data 1 last 1 0 bytes ''" up --data /dev/null
+printed=$({ "$send" --no-end a && "$send" --no-begin b && "$send" c; } | "$receive")
+[ "$printed" = "command 1 data 0 name 'a' args {}
+command 1 data 0 name 'b' args {}
+command 1 data 0 name 'c' args {}" ] || { printf 'three sends become\n%s\n' "$printed"; exit 1; }
+must_fail 'and not$' reads_back "command 1 data 0 name 'off' args {}" on
+
+# What is wrong is said in one line, and nothing is written.
+send_says() {
+    local wanted=$1 text words
+    shift
+    words=$*
+    if text=$("$send" "$@" 2>&1 >"$out/frames" </dev/null); then
+        echo "send accepts ${words:0:100}"
+        return 1
+    fi
+    [ "$text" = "send: $wanted" ] && [ ! -s "$out/frames" ] || {
+        printf 'send says\n%s\nand not\n%s\nof: %s\n' "$text" "$wanted" "${words:0:100}"
+        return 1
+    }
+}
+send_says 'no command is named; send --help says how'
+send_says 'y: no `=`; an argument is KEY=VALUE' x y
+send_says '=1: the key is empty' x =1
+send_says 'a=2: the key stands twice' x a=1 a=2
+send_says 'a=18446744073709551616: the integer is outside -2^64 to 2^64-1' x a=18446744073709551616
+send_says 'a=-18446744073709551617: the integer is outside -2^64 to 2^64-1' x a=-18446744073709551617
+send_says "a=h'0': no even number of hex digits in the quotes" x "a=h'0'"
+send_says 'y\n: no `=`; an argument is KEY=VALUE' x $'y\n'
+send_says '--size 0: no number from 1 to 4096' --size 0 x
+send_says '--size 4097: no number from 1 to 4096' --size 4097 x
+send_says '--size x: no number from 1 to 4096' --size x x
+send_says '--request 2: no odd number from 1 to 65535' --request 2 x
+send_says '--request 65537: no odd number from 1 to 65535' --request 65537 x
+send_says '--stream 256: no odd number from 1 to 255' --stream 256 x
+send_says '--stream: a word is missing behind it' x --stream
+send_says "--data $out/missing: cannot be read: no such file" x --data "$out/missing"
+send_says '--data /: cannot be read: it is a folder' x --data /
+send_says '--bogus: unknown option; send --help says what there is' --bogus x
+send_says 'the name has 0 bytes; it may have 1 to 64' ''
+send_says 'the name has 65 bytes; it may have 1 to 64' "$(printf 'x%.0s' {1..65})"
+send_says 'refused 53: a command over 2,048 bytes' x a="$(printf 'x%.0s' {1..2100})"
+must_fail 'send accepts' send_says 'the key is empty' x a=1
+must_fail '^send: the output cannot be written$' bash -c "$send x >/dev/full"
+help=$("$send" --help)
+[[ $help == 'send [OPTION].. NAME [KEY=VALUE]..'* ]] || { echo "send --help writes '$help'"; exit 1; }
+echo "tests: send and receive together, and what send says of words that are wrong"
+
 # No program calls an allocator.
 for object in target/obj/*.o; do
     if nm -u "$object" | grep -wE 'malloc|calloc|realloc|free|aligned_alloc|posix_memalign|mmap|brk|sbrk'; then
