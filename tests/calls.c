@@ -299,6 +299,7 @@ static void sent(void)
     memset(b.out, 0xa5, sizeof b.out);
     SENT(hgrpc_send(BYTES("set"), BYTES(""), 0, 1, 1, true, false, 4096, NO_DATA, OUT(24)), T1);
     SENT(hgrpc_send(BYTES("set"), BYTES(""), 0, 1, 1, true, false, 16, NO_DATA, OUT(99)), T1);
+    SENT(hgrpc_send(BYTES("set"), BYTES(""), 0, 1, 1, true, false, 16, false, BYTES("unread"), OUT(99)), T1);
     /* Frames of eight bytes; data that fills one, empty data, and data of nine. */
     SENT(hgrpc_send(BYTES("set"), BYTES(""), 0, 0x0201, 3, true, true, 8, true, BYTES("ninebyte"), OUT(48)),
          "\x8\0\0\1\2\3\1\x1d" "\xa2\x44" "name\x43" "s" "\x8\0\0\1\2\3\0\x1a" "et\x44" "args\xa0"
@@ -335,17 +336,21 @@ static void refused_requests(void)
  * asks for is just enough. */
 static void most_output(void)
 {
-    static uint8_t frames[9 * (HGRPC_COMMAND_LONGEST + 99)];
+    static uint8_t frames[9 * (HGRPC_COMMAND_LONGEST + 99)]; /* frames of one byte */
     static uint8_t pairs[HGRPC_COMMAND_LONGEST - 16] = "\x41k\x59\x7\xeb";
+    static const uint8_t data[99] = {0};
     size_t size, written;
     for (size = 1; size <= HGRPC_PAYLOAD_LONGEST; size++) {
-        size_t most = hgrpc_send_most(size, true, 99);
-        IS(hgrpc_send(BYTES("set"), pairs, sizeof pairs, 1, 1, 1, true, true, size, true, pairs, 99, frames,
-                      most, &written), 0);
+        size_t most = hgrpc_send_most(size, true, sizeof data);
+        IS(hgrpc_send(BYTES("set"), pairs, sizeof pairs, 1, 1, 1, true, true, size, true, data, sizeof data,
+                      frames, most, &written), 0);
         IS(written, most);
-        IS(hgrpc_send(BYTES("set"), pairs, sizeof pairs, 1, 1, 1, true, true, size, true, pairs, 99, frames,
-                      most - 1, &written), 54);
-        IS(hgrpc_send_most(size, false, 99), hgrpc_frames_most(HGRPC_COMMAND_LONGEST, size));
+        IS(hgrpc_send(BYTES("set"), pairs, sizeof pairs, 1, 1, 1, true, true, size, true, data, sizeof data,
+                      frames, most - 1, &written), 54);
+        most = hgrpc_send_most(size, false, sizeof data);
+        IS(hgrpc_send(BYTES("set"), pairs, sizeof pairs, 1, 1, 1, true, true, size, false, data, sizeof data,
+                      frames, most, &written), 0);
+        IS(written, most);
     }
     IS(hgrpc_send_most(4096, false, 0), 2056);
     IS(hgrpc_send_most(4096, true, 0), 2064);

@@ -11,7 +11,7 @@ mod met;
 #[path = "guard/over.rs"]
 mod over;
 
-use hgrpc::{feed_bytes, finish_bytes, fresh_bytes, OUTPUT, STATE, WORK};
+use hgrpc::{feed_bytes, finish_bytes, fresh_bytes, raw, OUTPUT, STATE, WORK};
 use met::Met;
 use replay_lines::{Driver, Edge, Room};
 use second::replay::{to_hex, Replay};
@@ -83,6 +83,7 @@ fn run(seed: u64, sessions: u64, commands: u64, sends: u64) {
         sides.line("tail");
     }
     EDGES.into_iter().for_each(other_states);
+    EDGES.into_iter().for_each(unread_data);
     if let Some(missing) = sides.met.missing() {
         fail(&format!("{missing} never came up"));
     }
@@ -111,6 +112,49 @@ fn other_states(edge: Edge) {
         assert_eq!(fresh_bytes(state.put(&bytes)), 3);
         assert_eq!(state.lent(length), bytes);
     }
+}
+
+/// The number and the count of a request whose data is not there: its pointer
+/// is to a page that may not be touched, or right behind one.
+fn send_unread(edge: Edge, with_data: bool, length: usize, output: &mut [u8]) -> (u32, usize) {
+    let data = Room::new(1, edge).lend(0).as_ptr();
+    let mut written = 9;
+    // Each other pointer comes with its own length, and the data is not read.
+    let number = unsafe {
+        raw::hgrpc_send(
+            b"set".as_ptr(),
+            3,
+            b"".as_ptr(),
+            0,
+            0,
+            1,
+            1,
+            true,
+            true,
+            1,
+            with_data,
+            data,
+            length,
+            output.as_mut_ptr(),
+            output.len(),
+            &mut written,
+        )
+    };
+    (number, written)
+}
+
+/// Data is read only where the request is accepted with it. The second length
+/// makes 2^64 + 2 bytes of frames, which a sum of 64 bits takes for 2: the output
+/// has room for those.
+fn unread_data(edge: Edge) {
+    let mut output = [0xa5; 9 * 16 + 9];
+    for length in [2, usize::MAX / 9 + 1, usize::MAX] {
+        let answer = send_unread(edge, true, length, &mut output);
+        assert_eq!(answer, (54, 0), "data of {length} bytes");
+        assert_eq!(output, [0xa5; 9 * 16 + 9]);
+    }
+    assert_eq!(send_unread(edge, false, 5, &mut output), (0, 9 * 16));
+    assert_eq!(output[9 * 16..], [0xa5; 9]);
 }
 
 fn fail(reason: &str) -> ! {

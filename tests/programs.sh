@@ -94,7 +94,7 @@ section=$(sed -n '/^## See it work$/,/^## Test everything$/p' README.md)
 together=$(block "$section" 3)
 [[ $together == 'rt staticlib hgrpc | grep ^rt: &&'* ]] || { echo "the README does not build send"; exit 1; }
 shown=$(block "$section" 4)
-printed=$(bash -euc "${together#*&&}")
+printed=$(bash -euc "${together#*&&}" 2>&1)
 [ -n "$shown" ] && [ "$printed" = "$shown" ] || {
     printf 'the README shows something else than send and receive print:\n%s\n' "$printed"
     exit 1

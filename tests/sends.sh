@@ -25,3 +25,13 @@ archive_program tests/round_trip.rs "$out/round_trip" "$out"
 "$out/round_trip" run 1 "$sends"
 must_fail '^round trip: seed 1, request [0-9]*: ' "$out/round_trip" damaged 1 20
 must_fail 'too seldom' "$out/round_trip" run 1 100
+
+if [ "$long" -eq 1 ]; then
+    answered=0
+    for ((seed = 2; seed <= 26; seed++)); do
+        "$out/sends" make "$seed" "$sends" >"$answers/lines"
+        compare_lines "$answers/lines" "$out/second_replay"
+        "$out/round_trip" run "$seed" "$sends"
+    done
+    echo "tests: $((25 * sends)) requests more, $answered answers of replay, each as the second program's"
+fi
