@@ -167,6 +167,13 @@ send_says 'the name has 65 bytes; it may have 1 to 64' "$(printf 'x%.0s' {1..65}
 send_says 'refused 53: a command over 2,048 bytes' x a="$(printf 'x%.0s' {1..2100})"
 must_fail 'send accepts' send_says 'the key is empty' x a=1
 must_fail '^send: the output cannot be written$' bash -c "$send x >/dev/full"
+for number in 50 51 52 53 54; do
+    words=$(sed -n "s/^ \*   $number  //p" include/hgrpc.h)
+    [ -n "$words" ] && grep -qF "$number => \"$words\"," examples/send.rs || {
+        echo "send and the header do not say the same of $number: $words"
+        exit 1
+    }
+done
 help=$("$send" --help)
 [[ $help == 'send [OPTION].. NAME [KEY=VALUE]..'* ]] || { echo "send --help writes '$help'"; exit 1; }
 echo "tests: send and receive together, and what send says of words that are wrong"

@@ -45,6 +45,7 @@ build_wrong_senders() {
 }
 build_wrong_senders &
 senders=$!
+children+=("$senders")
 wrongs=$((wrongs + ${#wrong_senders[@]}))
 
 "$out/sessions" traces
@@ -109,3 +110,4 @@ wrong_copy quotes capture.rs "s/'\\\\'' | //"
 rust_program tests/programs.rs "$copy/programs" "$copy"
 wrong_quotes=$copy
 wait "$senders"
+children=()
