@@ -51,8 +51,8 @@
  *   54  output too short for the exact total
  *
  * 11 to 29 refuse a frame: the channel is then dead, and the number is its dead
- * number, which every later feed and finish on it answers. 50 to 54 are hgrpc_send's,
- * and leave nothing behind. */
+ * number, which every later feed and finish on it answers. 50 to 54 refuse a
+ * request that is to be sent, and change nothing. */
 
 #ifndef HGRPC_H
 #define HGRPC_H
@@ -127,10 +127,10 @@ uint32_t hgrpc_integer(const uint8_t *command, size_t length,
  * The command is the map of `name` and `args`, in this order. `name` is 1 to 64
  * bytes. `pairs` are the arguments, `count` in number, as encoded CBOR: a key,
  * which is a byte string, its value, the next key, its value, and so on, with
- * nothing before, between or behind. Keys differ; values are items of the
- * subset, of six levels of containers at most, since `args` is in the second;
- * heads needn't be shortest, and go out as they are. For no arguments `count`
- * and `pairs_length` are 0.
+ * nothing before, between or behind. No key stands twice. Values are items of
+ * the subset with at most six levels of containers, for `args` itself is the
+ * second of eight. Heads in the pairs needn't be shortest, and go out as they
+ * are. For no arguments `count` and `pairs_length` are 0.
  *
  * `request` is an odd id that is not active at the receiver, and `stream` an odd
  * stream. With `begin` the first frame begins the stream, which the receiver
@@ -138,7 +138,7 @@ uint32_t hgrpc_integer(const uint8_t *command, size_t length,
  * `size` is the payload of a full frame, 1 to HGRPC_PAYLOAD_LONGEST: every frame
  * but the last of the command and the last of the data is full, and no frame is
  * empty but the one of data of length 0. Without `with_data` no data follows:
- * `data` is not read then, but is no NULL either.
+ * `data` is then not read, but it is not NULL either.
  *
  * 0: the frames are the first `written` bytes of the output, and the rest of it
  * is as it was. Else the first that applies of: 50 `request` or `stream` is even;
@@ -152,8 +152,8 @@ uint32_t hgrpc_integer(const uint8_t *command, size_t length,
  * name_length + H(count) + pairs_length bytes, where the head H(n) is 1 byte to
  * 23, 2 to 255, 3 to 65,535, and then 5 or 9. It goes out in L / size frames,
  * rounded up, and `data_length` bytes of data in data_length / size, rounded up,
- * but 1 at least; each frame has HGRPC_FRAME_HEAD bytes besides. An output of
- * hgrpc_send_most is always enough. */
+ * but 1 at least; each frame has HGRPC_FRAME_HEAD bytes besides. As many bytes
+ * as hgrpc_send_most tells are always enough. */
 uint32_t hgrpc_send(const uint8_t *name, size_t name_length,
                     const uint8_t *pairs, size_t pairs_length, uint64_t count,
                     uint16_t request, uint8_t stream, bool begin, bool end, size_t size,
@@ -162,7 +162,7 @@ uint32_t hgrpc_send(const uint8_t *name, size_t name_length,
 
 /* The bytes of the frames of so many bytes of command or data; 0 if they are more
  * than a size_t counts. The size is not 0. */
-static inline size_t hgrpc_frames_most(size_t length, size_t size)
+static inline size_t hgrpc_frames_length(size_t length, size_t size)
 {
     size_t frames = length == 0 ? 1 : (length - 1) / size + 1;
     if (frames > (SIZE_MAX - length) / HGRPC_FRAME_HEAD)
@@ -178,10 +178,10 @@ static inline size_t hgrpc_send_most(size_t size, bool with_data, size_t data_le
     size_t command, data;
     if (size == 0)
         return 0;
-    command = hgrpc_frames_most(HGRPC_COMMAND_LONGEST, size);
+    command = hgrpc_frames_length(HGRPC_COMMAND_LONGEST, size);
     if (!with_data)
         return command;
-    data = hgrpc_frames_most(data_length, size);
+    data = hgrpc_frames_length(data_length, size);
     return data == 0 || data > SIZE_MAX - command ? 0 : data + command;
 }
 
