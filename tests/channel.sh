@@ -69,6 +69,18 @@ while IFS='|' read -r _ number words _; do
 done < <(grep -E '^\| [0-9]+ \| ' docs/RULES.md)
 [ "$meanings" -eq 27 ] || { echo "the rules have $meanings numbers"; exit 1; }
 
+# So do those of the sending call, which stand in one sentence of the rules; send says them too.
+meanings=0
+while read -r number words; do
+    if [[ $joined != *" $number $words "* ]]; then
+        echo "the header does not say of $number: $words"
+        exit 1
+    fi
+    grep -qF "$number => \"$words\"," examples/send.rs || { echo "send does not say of $number: $words"; exit 1; }
+    meanings=$((meanings + 1))
+done < <(sed -n 's/^\*\*E2: .* with the output unchanged: \(50 .*\)\. This call, .*/\1/p' docs/RULES.md | sed 's/, \(5[1-4] \)/\n\1/g')
+[ "$meanings" -eq 5 ] || { echo "the rules have $meanings numbers of the sending call"; exit 1; }
+
 # The archive has these calls and no others, and needs no more than this.
 calls=$(nm -g --defined-only "$archive" | awk '$2 == "T" { print $3 }' | sort | tr '\n' ' ')
 wanted="hgrpc_argument hgrpc_check hgrpc_feed hgrpc_finish hgrpc_fresh hgrpc_integer hgrpc_name hgrpc_send "
