@@ -4,10 +4,11 @@ use mathlib.Core.Path.{_≡_, refl, sym, ap, _∙_}
 use mathlib.Core.Bool.{Bool, true, false, cond}
 use mathlib.Core.List.{List, [], _++_, append-nil}
 use Prim.Native.Nat.{ℕ, _+_, _-_, _*_, _≤_, _<_}
-use native.Mathlib.Nat.{div-mul-le-self, div-le-self}
+use native.Mathlib.Nat.{div-mul-le-self}
 use native.Mathlib.Omega.{arith}
 use lib.ListN.{length, length-append}
-use borrow.Author.Tests.{lt-ltb, le-ltb}
+use lib.Dec.{leb}
+use borrow.Author.Tests.{lt-ltb, le-ltb, leb-true, leb-false}
 use Rattle.frame.specs.Frame.{Frame}
 use Rattle.buffer.specs.Bytes.{write}
 use Rattle.buffer.proofs.WriteLaws.{write-also}
@@ -22,10 +23,6 @@ use Rattle.sender.proofs.FrameLaws.{all-long, all-append, frames-total,
 pub full-fits : (size n : ℕ) → fullFrames size n * size ≤ n
 unfolding fullFrames
 full-fits size n = omega (arith, div-mul-le-self (n - 1) size)
-
-pub full-most : (size n : ℕ) → fullFrames size n ≤ n
-unfolding fullFrames
-full-most size n = omega (arith, div-le-self (n - 1) size)
 
 pub type-long : (how : Wishes) (of-data d : Bool) (n : ℕ) (bytes : List ℕ) → length (typeBytes how of-data d n bytes) ≡ 8 * (n + 1) + length bytes
 type-long how of-data d n bytes = all-long (frames (frameFor how of-data d) (how .size) true n bytes) ∙ frames-total (frameFor how of-data d) (how .size) (carries how of-data d) true n bytes
@@ -70,6 +67,14 @@ module _ (how : Wishes) (command : List ℕ) (d : Bool) (bytes : List ℕ) where
     message-total = ap total message-data ∙ total-append (commandFrames how d command) (dataFrames how bytes)
 
 -- ---- 54, or all is put
+
+-- what the test of the room says
+module _ (full n room : ℕ) (r : Bool) (e : r ≡ leb (8 * (full + 1) + n) room) where
+  pub no-room : r ≡ false → room < 8 * (full + 1) + n
+  no-room h = leb-false (8 * (full + 1) + n) room (sym e ∙ h)
+
+  pub some-room : r ≡ true → 8 * (full + 1) + n ≤ room
+  some-room h = leb-true (8 * (full + 1) + n) room (sym e ∙ h)
 
 pub too-short : (fs : List Frame) (out : List ℕ) → length out < total fs → refused 54 out ≡ framesInto fs out
 unfolding framesInto

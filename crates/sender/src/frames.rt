@@ -5,9 +5,9 @@ use frame::Header;
 ghost use mathlib.Core.Path.{_≡_};
 ghost use Prim.Native.Nat.{_+_, _*_, _≤_, _<_};
 ghost use lib.ListN.{length};
+ghost use lib.Dec.{leb};
 ghost use Rattle.buffer.specs.Bytes.{write};
 ghost use Rattle.frame.specs.Frame.{headerFor, frameBytes};
-ghost use Rattle.frame.specs.Limits.{maxCommand};
 ghost use Rattle.sender.specs.Frames.{flagIf, streamFlags, commandFlags, dataFlags, fullFrames, messageFrames};
 ghost use Rattle.sender.specs.Send.{answer, framesInto};
 ghost use Rattle.sender.specs.Steps.{frameFor, typeBytes};
@@ -148,8 +148,18 @@ fn full_frames(size: usize, n: usize) -> usize
     (n - 1) / size
 }
 
-// Puts a command's frames and those of its data into the output, or refuses with 54. With size 1 the total is nine times the length: it is
-// compared part by part and never added up before.
+// Whether the frames of n bytes, `full` full ones and the last, have room. With size 1 their total is nine times the length and can pass
+// 2^64: it is compared without being added up.
+fn has_room(room: usize, full: usize, n: usize) -> bool
+    ensures { λ r. ⌜ r ≡ leb (8 * (full + 1) + n) room ⌝ }
+{
+    if room < n {
+        return false;
+    }
+    full < (room - n) / 8
+}
+
+// Puts a command's frames and those of its data into the output, or refuses with 54.
 pub(crate) fn put_message(
     out: &mut [u8],
     how: Wishes,
@@ -157,17 +167,12 @@ pub(crate) fn put_message(
     with_data: bool,
     data: &[u8],
 ) -> Sent
-    requires { ⌜ (0 < how .size) × (length (now command) ≤ maxCommand) ⌝ }
+    requires { ⌜ 0 < how .size ⌝ }
     ensures { λ r. ⌜ answer (r .number) (r .written) (now (out .exit)) ≡ framesInto (messageFrames how (now (command .entry)) «with_data» (now («data» .entry))) (now (out .entry)) ⌝ }
 {
-    let size = how.size;
-    let full = full_frames(size, command.len());
-    let short = 8 * (full + 1) + command.len();
-    if out.len() < short {
-        return Sent {
-            number: 54,
-            written: 0,
-        };
+    let full = full_frames(how.size, command.len());
+    if !has_room(out.len(), full, command.len()) {
+        return crate::refused(54);
     }
     if !with_data {
         let end = put_frames(out, 0, how, false, with_data, full, command);
@@ -176,19 +181,10 @@ pub(crate) fn put_message(
             written: end,
         };
     }
-    let data_full = full_frames(size, data.len());
-    let left = out.len() - short;
-    if left < data.len() {
-        return Sent {
-            number: 54,
-            written: 0,
-        };
-    }
-    if (left - data.len()) / 8 <= data_full {
-        return Sent {
-            number: 54,
-            written: 0,
-        };
+    let data_full = full_frames(how.size, data.len());
+    let left = out.len() - (8 * (full + 1) + command.len());
+    if !has_room(left, data_full, data.len()) {
+        return crate::refused(54);
     }
     let at = put_frames(out, 0, how, false, with_data, full, command);
     let end = put_frames(out, at, how, true, with_data, data_full, data);

@@ -95,11 +95,7 @@ slice-aggregate-put-message : tie.Need-slice-aggregate-put-message
 slice-aggregate-put-message c = let p = c .before .before .before .before in taken-long _ _ _ _ (p .put-command .ensures .0) (c .before .before .if4 .left) (p .put-command .ensures .1) row-long
 
 put-message-requires : tie.Need-put-message-requires
-put-message-requires c κs =
-    let p = c .before .before .before .before in
-    let i = p .before .before .before .before .before in
-    let t = taken-long _ _ _ _ (p .put-command .ensures .0) (c .before .before .if4 .left) (p .put-command .ensures .1) row-long in
-    (some-size _ _ (i .before .wish-number .ensures) (i .if1 .left), omega (arith, t, c .before .before .if4 .left))
+put-message-requires c κs = let i = c .before .before .before .before .before .before .before .before .before in some-size _ _ (i .before .wish-number .ensures) (i .if1 .left)
 
 returns-5 : tie.Need-returns-5
 returns-5 c =
