@@ -89,7 +89,7 @@ needs=$(nm -u "$archive" | awk '$1 == "U" { print $2 }' | sort | tr '\n' ' ')
 [ "$needs" = "memcpy memset " ] || { echo "the archive needs $needs"; exit 1; }
 
 # The board, built and run by the README's own lines, and with the sanitizers.
-section=$(sed -n "/^## A board's main loop in C$/,/^## Call/p" README.md)
+section=$(sed -n "/^## A board's main loop in C$/,/^## Send/p" README.md)
 shown=$(block "$section" 2)
 printed=$(bash -euc "$(block "$section" 1)")
 [ -n "$shown" ] && [ "$printed" = "$shown" ] || {

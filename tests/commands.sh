@@ -26,7 +26,7 @@ build_compare_rust "$out"
 build_compare_c "$out"
 
 # The README's program prints 0.
-sed -n '/^```c$/,/^```$/{/^```/d;p;}' README.md >"$out/desk.c"
+sed -n '/^## Call the check from C$/,$p' README.md | sed -n '/^```c$/,/^```$/{/^```/d;p;}' >"$out/desk.c"
 gcc -std=gnu11 -Iinclude -Wall -Wextra -Werror -O2 -o "$out/desk" "$out/desk.c" \
     target/staticlib/libcommand.a
 printed=$("$out/desk")

@@ -101,6 +101,19 @@ printed=$(bash -euc "${together#*&&}" 2>&1)
 }
 send=target/send
 
+# The README's C program, built and run by its own lines.
+section=$(sed -n '/^## Send from C$/,/^## Call/p' README.md)
+mkdir "$out/laptop"
+ln -s "$PWD/include" "$PWD/target" "$out/laptop"
+block "$section" 1 >"$out/laptop/laptop.c"
+gcc -std=c99 -Wall -Wextra -Wpedantic -Wconversion -Werror -Iinclude -fsyntax-only "$out/laptop/laptop.c"
+shown=$(block "$section" 3)
+printed=$(cd "$out/laptop" && bash -euc "$(block "$section" 2)" 2>&1)
+[ -n "$shown" ] && [ "$printed" = "$shown" ] || {
+    printf 'the README shows something else than its C program and receive print:\n%s\n' "$printed"
+    exit 1
+}
+
 # Runs send with the arguments behind $1; receive makes $1 of what it writes.
 reads_back() {
     local wanted=$1 text
