@@ -12,7 +12,7 @@ use Rattle.entries.specs.Entries.{entries, contents}
 use Rattle.command_map.specs.CommandMap.{args-key}
 use Rattle.command.specs.declared.Place.the-variants.{NotFound}
 use Rattle.command.specs.Command.{checked, numberOf}
-use Rattle.command.specs.Lookup.{placeNumber, nameOf, argumentAt, partAt}
+use Rattle.command.specs.Lookup.{placeNumber, nameOf, countOf, argumentAt, partAt}
 
 pub record EmptyExactly (number : ℕ) (bytes : List ℕ) : Type 0 where
   pub there : number ≡ 0 → 0 < length bytes
@@ -32,3 +32,7 @@ outerKeys s = ifMap (itemAt s 0) (λ n at. contents s (entries s 7 n at)) []
 
 abbrev pub MissingArgs : Type 0
 MissingArgs = (s key : List ℕ) → among (outerKeys s) args-key ≡ false → numberOf (checked s) ≡ 0 → argumentAt s key ≡ NotFound 6
+
+-- and there is none of them
+abbrev pub MissingCount : Type 0
+MissingCount = (s : List ℕ) → among (outerKeys s) args-key ≡ false → countOf s ≡ 0

@@ -54,6 +54,10 @@ module _ (s : List ℕ) where
   unfoldable pub nameOf : List ℕ
   nameOf = ifCommand (checked s) (λ start stop count first. part s start stop) (λ n. [])
 
+  -- the number of arguments, 0 if refused (E3)
+  unfoldable pub countOf : ℕ
+  countOf = ifCommand (checked s) (λ start stop count first. count) (λ n. 0)
+
   unfoldable pub argumentAt : List ℕ → Place
   argumentAt key = ifCommand (checked s) (λ start stop count first. placeOf (find s key (entries s 6 count first))) NotFound
 

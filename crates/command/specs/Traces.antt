@@ -1,15 +1,16 @@
--- Further commands, beside the table of T1 to T12 in the crate demands: for each command and argument key, the check's number, and the
--- number and the value of the argument as an integer. proofs/Traces.antt proves the table.
+-- Further commands, beside the table of T1 to T12 in the crate demands: for each command and argument key, the check's number, the
+-- number of arguments, and the number and the value of the argument as an integer. proofs/Traces.antt proves the table.
 -- These are definitions: they assume nothing.
 use Prim.Native.Nat.{ℕ, _-_, _^_}
 use mathlib.Core.Path.{_≡_}
 use mathlib.Core.List.{List, [], _∷_, map}
 use lib.IntN.{ℤ, pos}
 use Rattle.command.specs.Command.{checked, numberOf}
-use Rattle.command.specs.Lookup.{numberNumber, numberValue, integerAt}
+use Rattle.command.specs.Lookup.{numberNumber, numberValue, countOf, integerAt}
 
 pub record Answer : Type 0 where
   pub checked : ℕ
+  pub count : ℕ
   pub number : ℕ
   pub value : ℤ
 
@@ -37,41 +38,42 @@ withX l = withArgs (0xa1 ∷ 0x41 ∷ 0x78 ∷ l)
 abbrev x : List ℕ
 x = 0x78 ∷ []
 
-abbrev row : List ℕ → ℕ → ℕ → ℤ → Trace
-row c n m z = record { command = c; key = x; answer = record { checked = n; number = m; value = z } }
+abbrev row : List ℕ → ℕ → ℕ → ℕ → ℤ → Trace
+row c n k m z = record { command = c; key = x; answer = record { checked = n; count = k; number = m; value = z } }
 
 unfoldable pub traces : List Trace
 traces =
     -- T1's command: no argument
-    row (withArgs (0xa0 ∷ [])) 0 6 (pos 0) ∷
+    row (withArgs (0xa0 ∷ [])) 0 0 6 (pos 0) ∷
     -- E1, `args` missing: the name alone, and the name with `redirect`; the name twice
-    row (0xa1 ∷ withName []) 0 6 (pos 0) ∷
-    row (0xa2 ∷ withName (0x48 ∷ 0x72 ∷ 0x65 ∷ 0x64 ∷ 0x69 ∷ 0x72 ∷ 0x65 ∷ 0x63 ∷ 0x74 ∷ 0xa0 ∷ [])) 0 6 (pos 0) ∷
-    row (0xa2 ∷ withName (withName [])) 26 26 (pos 0) ∷
+    row (0xa1 ∷ withName []) 0 0 6 (pos 0) ∷
+    row (0xa2 ∷ withName (0x48 ∷ 0x72 ∷ 0x65 ∷ 0x64 ∷ 0x69 ∷ 0x72 ∷ 0x65 ∷ 0x63 ∷ 0x74 ∷ 0xa0 ∷ [])) 0 0 6 (pos 0) ∷
+    row (0xa2 ∷ withName (withName [])) 26 0 26 (pos 0) ∷
     -- E1, `name` is still needed: `args` alone, and neither; `args` twice
-    row (0xa1 ∷ thenArgs (0xa0 ∷ [])) 25 25 (pos 0) ∷
-    row (0xa0 ∷ []) 25 25 (pos 0) ∷
-    row (0xa3 ∷ withName (thenArgs (0xa0 ∷ thenArgs (0xa0 ∷ [])))) 26 26 (pos 0) ∷
+    row (0xa1 ∷ thenArgs (0xa0 ∷ [])) 25 0 25 (pos 0) ∷
+    row (0xa0 ∷ []) 25 0 25 (pos 0) ∷
+    row (0xa3 ∷ withName (thenArgs (0xa0 ∷ thenArgs (0xa0 ∷ [])))) 26 0 26 (pos 0) ∷
     -- 2^63-1 and 2^63
-    row (withX (0x1b ∷ 0x7f ∷ 0xff ∷ 0xff ∷ 0xff ∷ 0xff ∷ 0xff ∷ 0xff ∷ 0xff ∷ [])) 0 0 (pos (2 ^ 63 - 1)) ∷
-    row (withX (0x1b ∷ 0x80 ∷ 0 ∷ 0 ∷ 0 ∷ 0 ∷ 0 ∷ 0 ∷ 0 ∷ [])) 0 8 (pos 0) ∷
+    row (withX (0x1b ∷ 0x7f ∷ 0xff ∷ 0xff ∷ 0xff ∷ 0xff ∷ 0xff ∷ 0xff ∷ 0xff ∷ [])) 0 1 0 (pos (2 ^ 63 - 1)) ∷
+    row (withX (0x1b ∷ 0x80 ∷ 0 ∷ 0 ∷ 0 ∷ 0 ∷ 0 ∷ 0 ∷ 0 ∷ [])) 0 1 8 (pos 0) ∷
     -- a key twice, the second with a wider head
-    row (withArgs (0xa2 ∷ 0x41 ∷ 0x78 ∷ 0 ∷ 0x58 ∷ 1 ∷ 0x78 ∷ 0 ∷ [])) 26 26 (pos 0) ∷
+    row (withArgs (0xa2 ∷ 0x41 ∷ 0x78 ∷ 0 ∷ 0x58 ∷ 1 ∷ 0x78 ∷ 0 ∷ [])) 26 0 26 (pos 0) ∷
     -- a key of `args` that is no byte string; an `args` that is an array; an item that is no map
-    row (withArgs (0xa1 ∷ 0 ∷ 0 ∷ [])) 25 25 (pos 0) ∷
-    row (withArgs (0x80 ∷ [])) 25 25 (pos 0) ∷
-    row (0 ∷ []) 25 25 (pos 0) ∷
+    row (withArgs (0xa1 ∷ 0 ∷ 0 ∷ [])) 25 0 25 (pos 0) ∷
+    row (withArgs (0x80 ∷ [])) 25 0 25 (pos 0) ∷
+    row (0 ∷ []) 25 0 25 (pos 0) ∷
     -- a value missing; an array that claims 2^64-1 elements
-    row (withArgs (0xa1 ∷ 0x41 ∷ 0x78 ∷ [])) 24 24 (pos 0) ∷
-    row (withX (0x9b ∷ 0xff ∷ 0xff ∷ 0xff ∷ 0xff ∷ 0xff ∷ 0xff ∷ 0xff ∷ 0xff ∷ 0 ∷ [])) 24 24 (pos 0) ∷
+    row (withArgs (0xa1 ∷ 0x41 ∷ 0x78 ∷ [])) 24 0 24 (pos 0) ∷
+    row (withX (0x9b ∷ 0xff ∷ 0xff ∷ 0xff ∷ 0xff ∷ 0xff ∷ 0xff ∷ 0xff ∷ 0xff ∷ 0 ∷ [])) 24 0 24 (pos 0) ∷
     -- a set, its members twice
-    row (withX (0xd9 ∷ 0x01 ∷ 0x02 ∷ 0x82 ∷ 0x01 ∷ 0x01 ∷ [])) 0 7 (pos 0) ∷
+    row (withX (0xd9 ∷ 0x01 ∷ 0x02 ∷ 0x82 ∷ 0x01 ∷ 0x01 ∷ [])) 0 1 7 (pos 0) ∷
     []
 
 -- what the definitions answer
 unfoldable pub answerOf : Trace → Answer
 answerOf t = record {
   checked = numberOf (checked (t .command));
+  count = countOf (t .command);
   number = numberNumber (integerAt (t .command) (t .key));
   value = numberValue (integerAt (t .command) (t .key));
 }

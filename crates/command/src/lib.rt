@@ -6,7 +6,7 @@ use command_map::Checked;
 use entries::Entry;
 ghost use mathlib.Core.Path.{_≡_};
 ghost use Rattle.command.specs.Command.{checked, numberOf};
-ghost use Rattle.command.specs.Lookup.{placeNumber, numberNumber, numberValue, signedOf, nameOf, argumentAt, partAt, integerAt};
+ghost use Rattle.command.specs.Lookup.{placeNumber, numberNumber, numberValue, signedOf, nameOf, countOf, argumentAt, partAt, integerAt};
 
 // Where an argument's value starts and stops, or the refusal number.
 pub enum Place {
@@ -76,6 +76,22 @@ pub fn name(command: &[u8]) -> &[u8]
         return &command[0..0];
     };
     keys::part(command, from, to)
+}
+
+// How many arguments the command has, 0 if it is refused.
+pub fn argument_count(command: &[u8]) -> u64
+    ensures { λ r. ⌜ r ≡ countOf (now (command .entry)) ⌝ }
+{
+    let Checked::Command {
+        start: _,
+        stop: _,
+        count: arguments,
+        first: _,
+    } = check(command)
+    else {
+        return 0;
+    };
+    arguments
 }
 
 // Where the value of an argument stands.
