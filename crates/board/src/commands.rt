@@ -1,0 +1,163 @@
+// What a command asks of the board, by the receiver's check and lookups alone.
+use crate::Change;
+use cbor::Item;
+use command::Number;
+use command::Place;
+use command_map::Checked;
+ghost use mathlib.Core.Path.{_≡_};
+ghost use Rattle.command.specs.declared.Number.{Number};
+ghost use Rattle.board.specs.Commands.{isInteger, coilNamed, coilOf, isSwitch, isTrue, textItem, setChange, labelChange, offChange, changeOf, changeNumber};
+
+// Whether an argument is an integer, of any size: 8 is the lookup's number for one outside 64 bits.
+fn is_integer(z: Number) -> bool
+    ensures { λ r. ⌜ r ≡ isInteger z ⌝ }
+{
+    let Number::NoNumber(n) = z else {
+        return true;
+    };
+    n == 8
+}
+
+// The coil that an integer names, 16 where it is not 0 to 15.
+fn coil_named(z: i64) -> usize
+    ensures { λ r. ⌜ r ≡ coilNamed z ⌝ }
+{
+    if z < 0 {
+        return 16;
+    }
+    if 15 < z {
+        return 16;
+    }
+    z as usize
+}
+
+// The coil that an argument names, 16 where it names none.
+fn coil_of(z: Number) -> usize
+    ensures { λ r. ⌜ r ≡ coilOf z ⌝ }
+{
+    match z {
+        Number::Whole(n) => coil_named(n),
+        Number::NoNumber(_) => 16,
+    }
+}
+
+// Whether an item is true.
+fn is_true(item: &[u8]) -> bool
+    ensures { λ r. ⌜ r ≡ isTrue (now (item .entry)) ⌝ }
+{
+    keys::same_key(b"\xf5", item)
+}
+
+// Whether an item is true or false.
+fn is_switch(item: &[u8]) -> bool
+    ensures { λ r. ⌜ r ≡ isSwitch (now (item .entry)) ⌝ }
+{
+    if is_true(item) {
+        return true;
+    }
+    keys::same_key(b"\xf4", item)
+}
+
+// The item of `text`, refused where it is missing.
+fn text_item(command: &[u8]) -> Item
+    ensures { λ r. ⌜ r ≡ textItem (now (command .entry)) ⌝ }
+{
+    let Place::Found(start, _) = command::argument_at(command, b"text") else {
+        return Item::Refused;
+    };
+    cbor::read_item(command, start)
+}
+
+// What `set` with so many arguments asks for.
+fn set_change(command: &[u8], count: u64) -> Change
+    ensures { λ r. ⌜ r ≡ setChange (now (command .entry)) count ⌝ }
+{
+    if count != 2 {
+        return Change::Refused(41);
+    }
+    let z = command::integer_at(command, b"coil");
+    if !is_integer(z) {
+        return Change::Refused(41);
+    }
+    let on = command::argument(command, b"on");
+    if !is_switch(on) {
+        return Change::Refused(41);
+    }
+    let coil = coil_of(z);
+    if 16 <= coil {
+        return Change::Refused(42);
+    }
+    Change::Switch(coil, is_true(on))
+}
+
+// What `label` with so many arguments asks for.
+fn label_change(command: &[u8], count: u64) -> Change
+    ensures { λ r. ⌜ r ≡ labelChange (now (command .entry)) count ⌝ }
+{
+    if count != 2 {
+        return Change::Refused(41);
+    }
+    let z = command::integer_at(command, b"coil");
+    if !is_integer(z) {
+        return Change::Refused(41);
+    }
+    let Item::Bytes(start, stop) = text_item(command) else {
+        return Change::Refused(41);
+    };
+    let coil = coil_of(z);
+    if 16 <= coil {
+        return Change::Refused(42);
+    }
+    let text = keys::part(command, start, stop);
+    if 16 < text.len() {
+        return Change::Refused(43);
+    }
+    Change::Label(coil, start, stop)
+}
+
+// What `off` with so many arguments asks for.
+fn off_change(count: u64) -> Change
+    ensures { λ r. ⌜ r ≡ offChange count ⌝ }
+{
+    if count != 0 {
+        return Change::Refused(41);
+    }
+    Change::AllOff
+}
+
+// What a command asks for, by its name; the check's number comes first, and 40 is an unknown command.
+pub(crate) fn change_of(command: &[u8]) -> Change
+    ensures { λ r. ⌜ r ≡ changeOf (now (command .entry)) ⌝ }
+{
+    let c = command::check(command);
+    let Checked::Command {
+        start,
+        stop,
+        count,
+        first: _,
+    } = c
+    else {
+        return Change::Refused(command::refusal(c));
+    };
+    let name = keys::part(command, start, stop);
+    if keys::same_key(b"set", name) {
+        return set_change(command, count);
+    }
+    if keys::same_key(b"label", name) {
+        return label_change(command, count);
+    }
+    if keys::same_key(b"off", name) {
+        return off_change(count);
+    }
+    Change::Refused(40)
+}
+
+// The number of a change: 0 unless it is a refusal.
+pub(crate) fn number_of(change: Change) -> u32
+    ensures { λ r. ⌜ r ≡ changeNumber change ⌝ }
+{
+    let Change::Refused(n) = change else {
+        return 0;
+    };
+    n
+}
