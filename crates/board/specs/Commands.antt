@@ -2,7 +2,7 @@
 -- the receiver's check and lookups promise of it. These are definitions: they assume nothing.
 use Prim.Native.Nat.{ℕ}
 use mathlib.Core.List.{List, [], _∷_}
-use mathlib.Core.Bool.{Bool, true, false, cond, _||_}
+use mathlib.Core.Bool.{Bool, true, false, cond, not, _&&_, _||_}
 use lib.Dec.{ltb, leb, eqb}
 use lib.IntN.{ℤ, pos, negsuc}
 use lib.ListN.{length}
@@ -74,15 +74,22 @@ isTrue item = equal (switchItem true) item
 unfoldable pub isSwitch : List ℕ → Bool
 isSwitch item = isTrue item || equal (switchItem false) item
 
--- ---- the refusals, each with what follows where it does not apply
+-- ---- the refusals of arguments
 
-abbrev pub unless : Bool → ℕ → Change → Change
-unless ok n c = cond ok c (change.Refused n)
+-- 41 argument missing, extra or of the wrong type, 42 coil not 0 to 15, 43 text over 16 bytes, in this order
+abbrev pub inOrder : Bool → Bool → Bool → Change → Change
+inOrder typed there fits c =
+    cond (not typed) (change.Refused 41)
+    (cond (not there) (change.Refused 42)
+    (cond (not fits) (change.Refused 43) c))
 
 module _ (s : List ℕ) where
-  -- `coil` as the lookup gives it; the item of `on`; the item of `text`
+  -- `coil` as the lookup gives it, and the coil that it names; the item of `on`; the item of `text`
   abbrev pub coilArgument : Number
   coilArgument = integerAt s coil-key
+
+  abbrev pub coil : ℕ
+  coil = coilOf coilArgument
 
   abbrev pub onArgument : List ℕ
   onArgument = partAt s (argumentAt s on-key)
@@ -97,25 +104,19 @@ module _ (s : List ℕ) where
   -- `set` takes exactly `coil` and `on` (true or false)
   unfoldable pub setChange : ℕ → Change
   setChange count =
-      unless (eqb count 2) 41
-      (unless (isInteger coilArgument) 41
-      (unless (isSwitch onArgument) 41
-      (unless (ltb (coilOf coilArgument) coilCount) 42
-      (change.Switch (coilOf coilArgument) (isTrue onArgument)))))
+      inOrder ((eqb count 2 && isInteger coilArgument) && isSwitch onArgument) (ltb coil coilCount) true
+      (change.Switch coil (isTrue onArgument))
 
   -- `label` takes exactly `coil` and `text` (bytes)
   unfoldable pub labelChange : ℕ → Change
   labelChange count =
-      unless (eqb count 2) 41
-      (unless (isInteger coilArgument) 41
-      (ifBytes textItem (λ start stop.
-      unless (ltb (coilOf coilArgument) coilCount) 42
-      (unless (leb (length (part s start stop)) longestLabel) 43
-      (change.Label (coilOf coilArgument) start stop))) (change.Refused 41)))
+      ifBytes textItem (λ start stop.
+      inOrder (eqb count 2 && isInteger coilArgument) (ltb coil coilCount) (leb (length (part s start stop)) longestLabel)
+      (change.Label coil start stop)) (change.Refused 41)
 
 -- `off` takes no arguments and turns all off
 unfoldable pub offChange : ℕ → Change
-offChange count = unless (eqb count 0) 41 change.AllOff
+offChange count = inOrder (eqb count 0) true true change.AllOff
 
 module _ (s : List ℕ) where
   -- this command, or one of the others

@@ -1,2 +1,4 @@
 pub mod Commands
 pub mod Board
+pub mod Laws
+pub mod Traces

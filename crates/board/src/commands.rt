@@ -5,8 +5,7 @@ use command::Number;
 use command::Place;
 use command_map::Checked;
 ghost use mathlib.Core.Path.{_≡_};
-ghost use Rattle.command.specs.declared.Number.{Number};
-ghost use Rattle.board.specs.Commands.{isInteger, coilNamed, coilOf, isSwitch, isTrue, textItem, setChange, labelChange, offChange, changeOf, changeNumber};
+ghost use Rattle.board.specs.Commands.{isInteger, coilNamed, coilOf, isSwitch, isTrue, textItem, inOrder, setChange, labelChange, offChange, changeOf, changeNumber};
 
 // Whether an argument is an integer, of any size: 8 is the lookup's number for one outside 64 bits.
 fn is_integer(z: Number) -> bool
@@ -22,10 +21,7 @@ fn is_integer(z: Number) -> bool
 fn coil_named(z: i64) -> usize
     ensures { λ r. ⌜ r ≡ coilNamed z ⌝ }
 {
-    if z < 0 {
-        return 16;
-    }
-    if 15 < z {
+    if (z < 0) | (15 < z) {
         return 16;
     }
     z as usize
@@ -68,61 +64,60 @@ fn text_item(command: &[u8]) -> Item
     cbor::read_item(command, start)
 }
 
+// The change, unless a refusal applies: 41 an argument missing, extra or of the wrong type, 42 no such coil, 43 a text too long, in this order.
+fn in_order(typed: bool, there: bool, fits: bool, change: Change) -> Change
+    ensures { λ r. ⌜ r ≡ inOrder typed there fits change ⌝ }
+{
+    if !typed {
+        return Change::Refused(41);
+    }
+    if !there {
+        return Change::Refused(42);
+    }
+    if !fits {
+        return Change::Refused(43);
+    }
+    change
+}
+
 // What `set` with so many arguments asks for.
 fn set_change(command: &[u8], count: u64) -> Change
     ensures { λ r. ⌜ r ≡ setChange (now (command .entry)) count ⌝ }
 {
-    if count != 2 {
-        return Change::Refused(41);
-    }
     let z = command::integer_at(command, b"coil");
-    if !is_integer(z) {
-        return Change::Refused(41);
-    }
     let on = command::argument(command, b"on");
-    if !is_switch(on) {
-        return Change::Refused(41);
-    }
     let coil = coil_of(z);
-    if 16 <= coil {
-        return Change::Refused(42);
-    }
-    Change::Switch(coil, is_true(on))
+    let typed = (count == 2) & is_integer(z) & is_switch(on);
+    in_order(typed, coil < 16, true, Change::Switch(coil, is_true(on)))
 }
 
 // What `label` with so many arguments asks for.
 fn label_change(command: &[u8], count: u64) -> Change
     ensures { λ r. ⌜ r ≡ labelChange (now (command .entry)) count ⌝ }
 {
-    if count != 2 {
-        return Change::Refused(41);
-    }
     let z = command::integer_at(command, b"coil");
-    if !is_integer(z) {
-        return Change::Refused(41);
-    }
-    let Item::Bytes(start, stop) = text_item(command) else {
-        return Change::Refused(41);
-    };
     let coil = coil_of(z);
-    if 16 <= coil {
-        return Change::Refused(42);
+    let item = text_item(command);
+    match item {
+        Item::Bytes(start, stop) => {
+            let text = keys::part(command, start, stop);
+            let typed = (count == 2) & is_integer(z);
+            in_order(
+                typed,
+                coil < 16,
+                text.len() <= 16,
+                Change::Label(coil, start, stop),
+            )
+        }
+        _ => Change::Refused(41),
     }
-    let text = keys::part(command, start, stop);
-    if 16 < text.len() {
-        return Change::Refused(43);
-    }
-    Change::Label(coil, start, stop)
 }
 
 // What `off` with so many arguments asks for.
 fn off_change(count: u64) -> Change
     ensures { λ r. ⌜ r ≡ offChange count ⌝ }
 {
-    if count != 0 {
-        return Change::Refused(41);
-    }
-    Change::AllOff
+    in_order(count == 0, true, true, Change::AllOff)
 }
 
 // What a command asks for, by its name; the check's number comes first, and 40 is an unknown command.

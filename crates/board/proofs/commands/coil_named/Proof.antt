@@ -6,7 +6,7 @@ use mir.Syntax.{w64}
 use mir.Val.{toZ, ofZ}
 use mir.Facts.{toZ-ofZ}
 use Rattle.board.specs.Commands.{coilNamed}
-use Rattle.board.proofs.Named.{named-below, named-above, Named, named-coil}
+use Rattle.board.proofs.Named.{named-outside, Named, named-coil}
 use Rattle.board.proofs.commands.coil_named.Statement.{statement}
 use Rattle.board.proofs.commands.coil_named.Tie as tie
 
@@ -18,20 +18,17 @@ module _ (s : tie.Start) where
   read : coilNamed bits ≡ coilNamed (s .args .z)
   read = ap coilNamed (toZ-ofZ {w = w64} {z = s .args .z} (s .fits .z))
 
-named : (c : tie.Else2) → Named (bits (c .before .before))
-named c = named-coil (bits (c .before .before)) (c .before .if1 .left) (c .if2 .left)
+named : (c : tie.Else1) → Named (bits (c .before))
+named c = named-coil (bits (c .before)) (c .if1 .left)
 
 returns : tie.Need-returns
-returns c = named-below (bits (c .before)) (c .if1 .taken) ∙ read (c .before)
-
-returns-2 : tie.Need-returns-2
-returns-2 c = named-above (bits (c .before .before)) (c .if2 .taken) ∙ read (c .before .before)
+returns c = named-outside (bits (c .before)) (c .if1 .taken) ∙ read (c .before)
 
 cast-result : tie.Need-cast-result
 cast-result c = (named c .plain, named c .fits)
 
-returns-3 : tie.Need-returns-3
-returns-3 c = named c .coil ∙ read (c .before .before)
+returns-2 : tie.Need-returns-2
+returns-2 c = named c .coil ∙ read (c .before)
 
 pub coil-named-spec : {M : Type 1} → statement M
-coil-named-spec = tie.close (tie.spec returns returns-2 cast-result returns-3)
+coil-named-spec = tie.close (tie.spec returns cast-result returns-2)
