@@ -12,8 +12,8 @@ use Rattle.channel.specs.declared.Fed.{Fed}
 use Rattle.channel.specs.declared.Finished.{Finished}
 use Rattle.channel.specs.Receiver.{freshState}
 use Rattle.channel.specs.Channel.{feedOf, finishOf, fedWith, finished}
-use Rattle.layout.specs.State.{stateLength, encode, decode, isState, stateOf, stateFrom, stateInto}
-use Rattle.layout.proofs.StateLaws.{state-length}
+use Rattle.layout.specs.State.{stateLength, encode, isState, stateOf, stateFrom, stateInto}
+use Rattle.layout.proofs.StateLaws.{state-length, state-some, state-none}
 use Rattle.hgrpc.specs.Calls.{kept, answer, fedAnswer, freshAnswer, finishAnswer, feedAnswer}
 
 -- the state that is read and put where the bytes are a state's
@@ -36,15 +36,15 @@ module _ (b : List ℕ) where
 
   module _ (id : ℕ) where
     pub finish-none : isState b ≡ false → kept 3 b ≡ finishAnswer b id
-    unfolding finishAnswer decode
-    finish-none e = rw e
+    unfolding finishAnswer
+    finish-none e = rw (state-none b e)
 
     pub finish-done : isState b ≡ true → (s : Channel) (a : Finished) (b′ : List ℕ) → s ≡ stateFrom b → a ≡ finished (finishOf s id) → b′ ≡ stateInto b (a .channel)
         → kept (a .number) b′ ≡ finishAnswer b id
-    unfolding finishAnswer decode
+    unfolding finishAnswer
     finish-done e s a b′ f g h =
         let l : length b ≡ stateLength = state-length b e in
-        rw e
+        rw (state-some b e)
         (ap (kept (a .number)) (h ∙ into-state b (a .channel) l)
         ∙ ap (λ (x : Finished). kept (x .number) (encode (x .channel))) (g ∙ ap (λ (t : Channel). finished (finishOf t id)) (f ∙ from-state b l)))
 
@@ -54,15 +54,15 @@ module _ (b : List ℕ) where
     feed-short h = rw (lt-ltb _ _ h)
 
     pub feed-none : workArea ≤ length work → isState b ≡ false → answer 3 0 0 b work out ≡ feedAnswer b work input out
-    unfolding feedAnswer decode
-    feed-none h e = rw (le-ltb _ _ h, e)
+    unfolding feedAnswer
+    feed-none h e = rw (le-ltb _ _ h, state-none b e)
 
     pub feed-done : workArea ≤ length work → isState b ≡ true → (s : Channel) (a : Fed) (b′ work′ out′ : List ℕ) → s ≡ stateFrom b
         → fedWith a work′ out′ ≡ feedOf s work input out → b′ ≡ stateInto b (a .channel)
         → answer (a .number) (a .taken) (a .written) b′ work′ out′ ≡ feedAnswer b work input out
-    unfolding feedAnswer decode
+    unfolding feedAnswer
     feed-done h e s a b′ work′ out′ f g k =
         let l : length b ≡ stateLength = state-length b e in
-        rw (le-ltb _ _ h, e)
+        rw (le-ltb _ _ h, state-some b e)
         (ap (λ (x : List ℕ). answer (a .number) (a .taken) (a .written) x work′ out′) (k ∙ into-state b (a .channel) l)
         ∙ ap fedAnswer (g ∙ ap (λ (t : Channel). feedOf t work input out) (f ∙ from-state b l)))

@@ -16,7 +16,7 @@ use Rattle.channel.specs.Receiver.{Receiver, slotOf, freed, finishState}
 use Rattle.channel.specs.Channel as machine
 use Rattle.channel.specs.Channel.{feedOf, finishOf, plainShape}
 use Rattle.layout.specs.State.{decode}
-use Rattle.layout.specs.Laws.{AreBytes}
+use Rattle.fields.specs.Laws.{AreBytes}
 use Rattle.layout.proofs.StateLaws.{only}
 use Rattle.hgrpc.specs.Calls.{kept, answer, fedAnswer, replied, feedAnswer, finishAnswer}
 use Rattle.hgrpc.specs.Laws.{FeedRefused, FinishRefused}

@@ -1,5 +1,3 @@
--- Laws of the layout, and of loops over it.
-pub mod FieldLaws
-mod Loops
+-- Laws of the state's bytes.
 mod Places
 pub mod StateLaws

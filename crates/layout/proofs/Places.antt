@@ -1,14 +1,13 @@
--- What the code reads and puts at each place, against the layout: one law for a field behind another, and then a line for each field.
+-- What the code reads and puts at each place, against the layout: a line for each field.
 -- Assumes nothing.
-use Prim.Native.Nat.{ℕ, zero, suc, _+_, _-_, _*_, _/_, _%_, _<_}
+use Prim.Native.Nat.{ℕ, zero, suc, _+_, _*_, _<_}
 use mathlib.Core.Bool.{Bool, true, false, _&&_}
 use mathlib.Core.List.{List, [], _∷_, _++_}
 use mathlib.Core.Path.{_≡_, refl, sym, ap, _∙_}
 use native.Mathlib.Nat.{add-zero, mod-eq-of-lt}
 use native.Mathlib.Omega.{arith}
-use lib.ListN.{length, drop, getD, set, length-set, length-append}
+use lib.ListN.{length, drop, getD, set, length-append}
 use lib.Dec.{ltb, eqb}
-use lib.Seq.{getD-drop, drop-drop, take-all}
 use borrow.Author.Tests.{eq-eqb, ne-eqb}
 use mir.Val.{boolByte}
 use Rattle.frame.specs.Limits.{slotCount, streamCount}
@@ -18,53 +17,11 @@ use Rattle.requests.specs.declared.Slot.{Slot}
 use Rattle.requests.specs.Phases.{code}
 use Rattle.channel.specs.declared.Channel.{Channel}
 use Rattle.buffer.specs.Bytes.{write}
-use Rattle.buffer.proofs.WriteLaws.{write-twice, set-write, length-write, take-front}
-use Rattle.layout.specs.Fields.{Field, number, both, many, getAll, goodAll, putAll}
-use Rattle.layout.specs.State.{flag, phaseOf, phase, phaseCount, slot, channel, pendingAt, slotsAt, streamsAt, stateLength, encode, isState, stateOf}
-use Rattle.layout.proofs.Loops.{getAll-at, putAll-length, putTo, put-more}
-
-and-true : (x : Bool) → (x && true) ≡ x
-and-true true = refl
-and-true false = refl
-
--- ---- a field behind another: reading and judging from place p on, the second field from place q on; putting
-
-module _ {A B : Type 0} (f : Field A) (g : Field B) (b : List ℕ) (p q : ℕ) (e : f .width + p ≡ q) where
-  behind : drop (f .width) (drop p b) ≡ drop q b
-  behind =
-      let k : p + f .width ≡ q = omega arith in
-      drop-drop (f .width) p b ∙ ap (λ (n : ℕ). drop n b) k
-
-  pub both-get : _≡_ {A = A × B} (both f g .get (drop p b)) (f .get (drop p b), g .get (drop q b))
-  both-get = ap {B = A × B} (λ (l : List ℕ). (f .get (drop p b), g .get l)) behind
-
-  pub both-good : both f g .good (drop p b) ≡ (f .good (drop p b) && g .good (drop q b))
-  both-good = ap (λ (l : List ℕ). f .good (drop p b) && g .good l) behind
-
-pub put-behind : (w : List ℕ) (p q : ℕ) (s t : List ℕ) → length s + p ≡ q → write (write w p s) q t ≡ write w p (s ++ t)
-put-behind w p q s t e =
-    let k : q ≡ p + length s = omega arith in
-    ap (λ (n : ℕ). write (write w p s) n t) k ∙ write-twice w p s t
-
--- ---- a number of two bytes
-
-pub two-get : (b : List ℕ) (at : ℕ) → number 2 .get (drop at b) ≡ getD b at 0 + 256 * getD b (at + 1) 0
-two-get b at =
-    let x : getD (drop at b) 0 0 ≡ getD b at 0 = getD-drop at b 0 0 ∙ ap (λ (k : ℕ). getD b k 0) (add-zero at) in
-    let y : getD (drop at b) 1 0 ≡ getD b (at + 1) 0 = getD-drop at b 1 0 in
-    omega (arith, x, y)
-
-pub two-put : (b : List ℕ) (at n : ℕ) → set (set b at (n % 256)) (at + 1) (n / 256 % 256) ≡ write b at (number 2 .put n)
-two-put b at n =
-    let c : List ℕ = n % 256 ∷ [] in
-    ap (λ (w : List ℕ). set w (at + 1) (n / 256 % 256)) (set-write b at (n % 256))
-    ∙ set-write (write b at c) (at + 1) (n / 256 % 256)
-    ∙ put-behind b at (at + 1) c (n / 256 % 256 ∷ []) (omega arith)
-
--- ---- one byte
-
-pub byte-get : (b : List ℕ) (at : ℕ) → getD (drop at b) 0 0 ≡ getD b at 0
-byte-get b at = getD-drop at b 0 0 ∙ ap (λ (k : ℕ). getD b k 0) (add-zero at)
+use Rattle.buffer.proofs.WriteLaws.{set-write}
+use Rattle.fields.specs.Fields.{number, flag, both, many, getAll, goodAll, putAll}
+use Rattle.fields.proofs.Loops.{getAll-at, putAll-length, putTo, put-more}
+use Rattle.fields.proofs.Places.{and-true, both-get, both-good, put-behind, byte-get, write-whole}
+use Rattle.layout.specs.State.{phaseOf, phase, phaseCount, slot, channel, pendingAt, slotsAt, streamsAt, stateLength, encode, isState, stateOf}
 
 -- ---- a phase
 
@@ -117,12 +74,6 @@ slot-made b at id n p e f g =
     let k : id ≡ number 2 .get (drop at b) = e ∙ ap (λ (m : ℕ). number 2 .get (drop m b)) (add-zero at) in
     rw (k, f, g) (sym (slot-get b at))
 
-pub wrote-length : (w v : List ℕ) (i : ℕ) (s : List ℕ) → v ≡ write w i s → length v ≡ length w
-wrote-length w v i s e = ap length e ∙ length-write w i s
-
-pub two-set : (w : List ℕ) (i j x y : ℕ) → length (set (set w i x) j y) ≡ length w
-two-set w i j x y = length-set (set w i x) j y ∙ length-set w i x
-
 -- ---- the streams
 
 pub stream-at : (b : List ℕ) (i : ℕ) → i < 128 → eqb (getD b (streamsAt + i) 0) 1 ≡ getD (getAll flag 128 (drop streamsAt b)) i false
@@ -171,9 +122,6 @@ module _ (b : List ℕ) where
   pub state-same : length b ≡ stateLength → isState b ≡ (goodAll slot slotCount (drop slotsAt b) && goodAll flag streamCount (drop streamsAt b))
   unfolding isState
   state-same h = ap (λ (x : Bool). x && channel .good b) (eq-eqb _ _ h) ∙ state-good
-
-write-whole : (w s : List ℕ) → length w ≡ length s → write w 0 s ≡ s
-write-whole w s h = sym (take-all (length s) (write w 0 s) (omega (arith, length-write w 0 s))) ∙ take-front w s (omega arith)
 
 -- in the steps of the code
 pub state-put : (b c d e : List ℕ) (s : Channel) → c ≡ write (set b 0 (s .dead)) pendingAt (number 2 .put (s .pending))

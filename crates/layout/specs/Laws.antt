@@ -2,21 +2,14 @@
 -- These are definitions: they assume nothing.
 use Prim.Native.Nat.{ℕ, _<_, _^_}
 use mathlib.Core.Path.{_≡_}
-use mathlib.Core.List.{List, [], _∷_}
+use mathlib.Core.List.{List}
 use mathlib.Core.Option.{some}
-use lib.ListN.{length, getD}
+use lib.ListN.{length}
 use Rattle.frame.specs.Limits.{slotCount, streamCount}
 use Rattle.requests.specs.declared.Slot.{Slot}
 use Rattle.channel.specs.declared.Channel.{Channel}
+use Rattle.fields.specs.Laws.{AreBytes, AllFit}
 use Rattle.layout.specs.State.{encode, decode}
-
--- what a byte slice guarantees
-pub record AreBytes (b : List ℕ) : Type 0 where
-  pub byte : (i : ℕ) → getD b i 0 < 256
-
-abbrev pub AllFit : {A : Type 0} → (A → Type 0) → List A → Type 0
-AllFit F [] = Unit {0}
-AllFit F (x ∷ xs) = F x × AllFit F xs
 
 -- numbers that fit their fields
 pub record SlotFits (x : Slot) : Type 0 where

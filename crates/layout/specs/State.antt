@@ -2,12 +2,11 @@
 -- byte for each of the 128 streams, 179 in all. Numbers are little-endian, as wide as rule 3 lets them grow; a phase has its code, a bool 1
 -- for true. These are definitions: they assume nothing.
 use Prim.Native.Nat.{ℕ}
-use mathlib.Core.Bool.{Bool, cond, _&&_}
+use mathlib.Core.Bool.{Bool, cond}
 use mathlib.Core.List.{List, [], _∷_}
-use mathlib.Core.Option.{Option, some, none}
+use mathlib.Core.Option.{Option}
 use lib.ListN.{length, getD}
 use lib.Dec.{eqb}
-use mir.Val.{boolByte}
 use Rattle.frame.specs.Limits.{slotCount, streamCount}
 use Rattle.requests.specs.declared.Phase.{Phase}
 use Rattle.requests.specs.declared.Phase.the-variants.{Free, Collecting, Waiting, Running}
@@ -15,12 +14,9 @@ use Rattle.requests.specs.declared.Slot.{Slot}
 use Rattle.requests.specs.Phases.{code}
 use Rattle.channel.specs.declared.Channel.{Channel}
 use Rattle.channel.specs.Receiver.{freshState}
-use Rattle.layout.specs.Fields.{Field, number, choice, both, many, standing}
+use Rattle.fields.specs.Fields.{Field, number, choice, flag, both, many, standing, isValue, decode as decodeBy}
 
 -- ---- the fields
-
-abbrev pub flag : Field Bool
-flag = choice 2 boolByte (λ n. eqb n 1)
 
 -- the phases in the order of their codes
 unfoldable pub phaseOf : ℕ → Phase
@@ -72,13 +68,13 @@ unfoldable pub encode : Channel → List ℕ
 encode s = channel .put s
 
 unfoldable pub isState : List ℕ → Bool
-isState b = eqb (length b) stateLength && channel .good b
+isState b = isValue channel b
 
 unfoldable pub stateOf : List ℕ → Channel
 stateOf b = channel .get b
 
 unfoldable pub decode : List ℕ → Option Channel
-decode b = cond (isState b) (some (stateOf b)) none
+decode b = decodeBy channel b
 
 -- what the code answers for bytes of any length
 unfoldable pub stateFrom : List ℕ → Channel

@@ -9,8 +9,8 @@ ghost use Prim.Native.Nat.{_+_, _*_, _≤_};
 ghost use lib.ListN.{length, drop};
 ghost use lib.Dec.{ltb};
 ghost use Rattle.buffer.specs.Bytes.{write};
-ghost use Rattle.layout.specs.Fields.{number, getAll, goodAll, putAll};
-ghost use Rattle.layout.specs.State.{flag, phaseOf, slot, slotsAt, streamsAt, stateLength, encode, isState, stateOf, stateFrom, stateInto};
+ghost use Rattle.fields.specs.Fields.{number, flag, getAll, goodAll, putAll};
+ghost use Rattle.layout.specs.State.{phaseOf, slot, slotsAt, streamsAt, stateLength, encode, isState, stateOf, stateFrom, stateInto};
 
 // Where each part of a slot stands in the slot's bytes, and how many there are.
 const ID: usize = 0;

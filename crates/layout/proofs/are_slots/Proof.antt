@@ -6,9 +6,9 @@ use mathlib.Core.Path.{_≡_, refl, sym, _∙_}
 use native.Mathlib.Omega.{arith}
 use lib.ListN.{length, drop}
 use borrow.Author.Needs.{needs}
-use Rattle.layout.specs.Fields.{goodAll}
+use Rattle.fields.specs.Fields.{goodAll}
 use Rattle.layout.specs.State.{slot, slotsAt, streamsAt}
-use Rattle.layout.proofs.Loops.{good-more, good-end}
+use Rattle.fields.proofs.Loops.{good-more, good-end}
 use Rattle.layout.proofs.are_slots.Statement.{statement}
 use Rattle.layout.proofs.are_slots.Tie as tie
 

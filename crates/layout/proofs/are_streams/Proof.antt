@@ -6,10 +6,10 @@ use mathlib.Core.Path.{_≡_, refl, sym, _∙_}
 use native.Mathlib.Omega.{arith}
 use lib.ListN.{length, drop}
 use borrow.Author.Needs.{needs}
-use Rattle.layout.specs.Fields.{goodAll}
-use Rattle.layout.specs.State.{flag, streamsAt, stateLength}
-use Rattle.layout.proofs.Loops.{good-more, good-end}
-use Rattle.layout.proofs.Places.{byte-get}
+use Rattle.fields.specs.Fields.{flag, goodAll}
+use Rattle.layout.specs.State.{streamsAt, stateLength}
+use Rattle.fields.proofs.Loops.{good-more, good-end}
+use Rattle.fields.proofs.Places.{byte-get}
 use Rattle.layout.proofs.are_streams.Statement.{statement}
 use Rattle.layout.proofs.are_streams.Tie as tie
 

@@ -2,7 +2,7 @@
 -- Assumes nothing.
 use mathlib.Core.Path.{sym, _∙_}
 use borrow.Author.Needs.{needs}
-use Rattle.layout.proofs.Places.{two-get}
+use Rattle.fields.proofs.Places.{two-get}
 use Rattle.layout.proofs.number_at.Statement.{statement}
 use Rattle.layout.proofs.number_at.Tie as tie
 

@@ -4,7 +4,7 @@ use Prim.Native.Nat.{_%_}
 use native.Mathlib.Omega.{arith}
 use lib.ListN.{length-set}
 use borrow.Author.Needs.{needs}
-use Rattle.layout.proofs.Places.{two-put}
+use Rattle.fields.proofs.Places.{two-put}
 use Rattle.layout.proofs.put_number.Statement.{statement}
 use Rattle.layout.proofs.put_number.Tie as tie
 

@@ -6,7 +6,8 @@ use native.Mathlib.Omega.{arith}
 use lib.ListN.{length-set}
 use mir.Val.{boolByte}
 use borrow.Author.Needs.{needs}
-use Rattle.layout.proofs.Places.{slot-put, wrote-length, two-set}
+use Rattle.fields.proofs.Places.{wrote-length, two-set}
+use Rattle.layout.proofs.Places.{slot-put}
 use Rattle.layout.proofs.put_slot.Statement.{statement}
 use Rattle.layout.proofs.put_slot.Tie as tie
 

@@ -7,8 +7,8 @@ use lib.ListN.{length}
 use borrow.Author.Needs.{needs}
 use Rattle.requests.specs.Phases.{freeSlot}
 use Rattle.layout.specs.State.{slot, slotsAt, streamsAt}
-use Rattle.layout.proofs.Loops.{putTo, put-none, put-more, put-all}
-use Rattle.layout.proofs.Places.{wrote-length}
+use Rattle.fields.proofs.Loops.{putTo, put-none, put-more, put-all}
+use Rattle.fields.proofs.Places.{wrote-length}
 use Rattle.layout.proofs.put_slots.Statement.{statement}
 use Rattle.layout.proofs.put_slots.Tie as tie
 

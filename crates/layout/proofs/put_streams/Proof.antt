@@ -5,8 +5,9 @@ use mathlib.Core.Path.{_≡_, refl, _∙_}
 use native.Mathlib.Omega.{arith}
 use lib.ListN.{length, length-set}
 use borrow.Author.Needs.{needs}
-use Rattle.layout.specs.State.{flag, streamsAt, stateLength}
-use Rattle.layout.proofs.Loops.{putTo, put-none, put-all}
+use Rattle.fields.specs.Fields.{flag}
+use Rattle.layout.specs.State.{streamsAt, stateLength}
+use Rattle.fields.proofs.Loops.{putTo, put-none, put-all}
 use Rattle.layout.proofs.Places.{stream-put}
 use Rattle.layout.proofs.put_streams.Statement.{statement}
 use Rattle.layout.proofs.put_streams.Tie as tie

@@ -6,9 +6,9 @@ use native.Mathlib.Omega.{arith}
 use lib.ListN.{length, take, drop, length-set}
 use borrow.Author.Needs.{needs}
 use Rattle.requests.specs.Phases.{freeSlot}
-use Rattle.layout.specs.Fields.{getAll}
+use Rattle.fields.specs.Fields.{getAll}
 use Rattle.layout.specs.State.{slot, slotsAt, streamsAt}
-use Rattle.layout.proofs.Loops.{filled-more, filled-all, length-getAll, getAll-at}
+use Rattle.fields.proofs.Loops.{filled-more, filled-all, length-getAll, getAll-at}
 use Rattle.layout.proofs.slots_of.Statement.{statement}
 use Rattle.layout.proofs.slots_of.Tie as tie
 

@@ -6,9 +6,9 @@ use mathlib.Core.Path.{_≡_, refl, _∙_}
 use native.Mathlib.Omega.{arith}
 use lib.ListN.{length, take, drop, length-set}
 use borrow.Author.Needs.{needs}
-use Rattle.layout.specs.Fields.{getAll}
-use Rattle.layout.specs.State.{flag, streamsAt, stateLength}
-use Rattle.layout.proofs.Loops.{filled-more, filled-all, length-getAll}
+use Rattle.fields.specs.Fields.{flag, getAll}
+use Rattle.layout.specs.State.{streamsAt, stateLength}
+use Rattle.fields.proofs.Loops.{filled-more, filled-all, length-getAll}
 use Rattle.layout.proofs.Places.{stream-at}
 use Rattle.layout.proofs.streams_of.Statement.{statement}
 use Rattle.layout.proofs.streams_of.Tie as tie

@@ -6,7 +6,8 @@ use lib.ListN.{set, length-set}
 use mathlib.Core.Path.{_∙_}
 use native.Mathlib.Omega.{arith}
 use Rattle.layout.specs.State.{pendingAt, slotsAt, streamsAt}
-use Rattle.layout.proofs.Places.{wrote-length, state-put}
+use Rattle.fields.proofs.Places.{wrote-length}
+use Rattle.layout.proofs.Places.{state-put}
 use Rattle.layout.proofs.write_state.Statement.{statement}
 use Rattle.layout.proofs.put_number.Reads as put-number-reads
 use Rattle.layout.proofs.put_slots.Reads as put-slots-reads

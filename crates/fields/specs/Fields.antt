@@ -1,10 +1,12 @@
 -- Values laid out in bytes. A field has a width, the bytes of each value, the value of each bytes, and which bytes are a value's; fields are
 -- made of fields, so that a layout is a line for each. These are definitions: they assume nothing.
 use Prim.Native.Nat.{ℕ, zero, suc, _+_, _*_, _/_, _%_}
-use mathlib.Core.Bool.{Bool, true, _&&_}
+use mathlib.Core.Bool.{Bool, true, cond, _&&_}
 use mathlib.Core.List.{List, [], _∷_, _++_}
-use lib.ListN.{drop, getD}
-use lib.Dec.{ltb}
+use mathlib.Core.Option.{Option, some, none}
+use lib.ListN.{length, drop, getD}
+use lib.Dec.{ltb, eqb}
+use mir.Val.{boolByte}
 
 -- `get` and `good` look at the first `width` bytes; what is behind them does not matter
 pub record Field (A : Type 0) : Type 0 where
@@ -31,6 +33,10 @@ number w = record { width = w; put = bytesOf w; get = little w 0; good = λ b. t
 
 abbrev pub choice : {A : Type 0} → ℕ → (A → ℕ) → (ℕ → A) → Field A
 choice count code of = record { width = 1; put = λ a. code a ∷ []; get = λ b. of (getD b 0 0); good = λ b. ltb (getD b 0 0) count }
+
+-- 1 for true
+abbrev pub flag : Field Bool
+flag = choice 2 boolByte (λ n. eqb n 1)
 
 -- ---- one field behind another, a field n times, and a field whose values stand for others
 
@@ -60,3 +66,11 @@ module _ {A : Type 0} (f : Field A) where
 
   abbrev pub standing : {B : Type 0} → (B → A) → (A → B) → Field B
   standing to of = record { width = f .width; put = λ x. f .put (to x); get = λ b. of (f .get b); good = f .good }
+
+  -- ---- a field alone: which bytes are a value's, and the value of those that are
+
+  abbrev pub isValue : List ℕ → Bool
+  isValue b = eqb (length b) (f .width) && f .good b
+
+  abbrev pub decode : List ℕ → Option A
+  decode b = cond (isValue b) (some (f .get b)) none

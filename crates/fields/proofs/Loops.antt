@@ -11,7 +11,7 @@ use lib.ListN.{length, take, drop, getD, set, length-append, length-take}
 use lib.Seq.{take-suc, take-suc-set, take-all, drop-drop}
 use Rattle.buffer.specs.Bytes.{write}
 use Rattle.buffer.proofs.WriteLaws.{write-twice, write-none}
-use Rattle.layout.specs.Fields.{Field, putAll, getAll, goodAll}
+use Rattle.fields.specs.Fields.{Field, putAll, getAll, goodAll}
 
 -- ---- reading: a list that agrees with another in its first i elements
 

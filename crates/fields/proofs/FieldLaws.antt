@@ -1,22 +1,19 @@
--- The laws of a layout's fields: a value that fits comes back, and bytes are good only if they are a value's.
+-- The laws of fields: a value that fits comes back, and bytes are good only if they are a value's; each way of making a field keeps them.
 -- Assumes nothing.
 use Prim.Native.Nat.{ℕ, zero, suc, _+_, _*_, _/_, _%_, _^_, _<_, _≤_}
-use mathlib.Core.Bool.{Bool, true, false, _&&_}
-use mathlib.Core.List.{List, [], _∷_, _++_, append-assoc}
+use mathlib.Core.Bool.{Bool, true, false, cond, _&&_}
+use mathlib.Core.List.{List, [], _∷_, _++_, append-assoc, append-nil}
+use mathlib.Core.Option.{Option, some, none, Option·some-injective, Option·none-ne-some}
 use mathlib.Core.Path.{_≡_, refl, sym, ap, _∙_}
 use native.Mathlib.Nat.{pow-suc, suc-mul, zero-mul}
 use native.Mathlib.Omega.{arith}
-use borrow.Author.Tests.{lt-ltb, ltb-true}
+use borrow.Author.Tests.{lt-ltb, ltb-true, eq-eqb, eqb-true}
 use lib.ListN.{length, take, drop, getD, length-append, length-drop}
-use lib.Seq.{getD-drop, drop-at, take-add}
-use Rattle.layout.specs.Fields.{Field, bytesOf, little, number, choice, both, putAll, getAll, goodAll, many, standing}
-use Rattle.layout.specs.Laws.{AreBytes, AllFit}
-
-pub record Lawful {A : Type 0} (f : Field A) (Fits : A → Type 0) : Type 0 where
-  pub size : (a : A) → Fits a → length (f .put a) ≡ f .width
-  pub back : (a : A) (r : List ℕ) → Fits a → f .get (f .put a ++ r) ≡ a
-  pub passes : (a : A) (r : List ℕ) → Fits a → f .good (f .put a ++ r) ≡ true
-  pub only : (b : List ℕ) → AreBytes b → f .width ≤ length b → f .good b ≡ true → f .put (f .get b) ≡ take (f .width) b
+use lib.Dec.{eqb}
+use lib.Seq.{getD-drop, drop-at, take-add, take-all}
+use mir.Val.{boolByte}
+use Rattle.fields.specs.Fields.{Field, bytesOf, little, number, choice, flag, both, putAll, getAll, goodAll, many, standing, isValue, decode}
+use Rattle.fields.specs.Laws.{AreBytes, AllFit, Lawful, Back, Only}
 
 pub bytes-drop : (n : ℕ) (b : List ℕ) → AreBytes b → AreBytes (drop n b)
 bytes-drop n b h = record { byte = λ i. rw getD-drop (h .byte (n + i)) }
@@ -77,6 +74,10 @@ pub record Coded {A : Type 0} (count : ℕ) (code : A → ℕ) (of : ℕ → A) 
 abbrev pub Any : {A : Type 0} → A → Type 0
 Any a = Unit {0}
 
+pub all-any : {A : Type 0} (l : List A) → AllFit Any l
+all-any [] = tt
+all-any (x ∷ xs) = (tt, all-any xs)
+
 pub choice-lawful : {A : Type 0} (count : ℕ) (code : A → ℕ) (of : ℕ → A) → Coded count code of → Lawful (choice count code of) Any
 choice-lawful count code of c = record {
   size = λ a h. refl;
@@ -91,6 +92,26 @@ choice-lawful count code of c = record {
         none : 1 ≤ 0 → ⊥
         none k = omega arith
     one (x ∷ xs) h l g = ap (λ (n : ℕ). n ∷ []) (c .only x (ltb-true x count g))
+
+-- ---- a flag
+
+flag-coded : Coded 2 boolByte (λ n. eqb n 1)
+flag-coded = record {
+  below = elim [ true ↦ omega arith | false ↦ omega arith ];
+  back = elim [ true ↦ refl | false ↦ refl ];
+  only = one;
+}
+  where
+    one : (n : ℕ) → n < 2 → boolByte (eqb n 1) ≡ n
+    one zero h = refl
+    one (suc zero) h = refl
+    one (suc (suc n)) h = absurd (none′ h)
+      where
+        none′ : suc (suc n) < 2 → ⊥
+        none′ k = omega arith
+
+pub flag-lawful : Lawful flag Any
+flag-lawful = choice-lawful 2 boolByte (λ n. eqb n 1) flag-coded
 
 -- ---- one behind another
 
@@ -184,3 +205,45 @@ module _ {A : Type 0} {f : Field A} {F : A → Type 0} (p : Lawful f F) where
     passes = λ x r h. p .passes (to x) r h;
     only = λ b h l g. ap (f .put) (e (f .get b)) ∙ p .only b h l g;
   }
+
+-- ---- a field alone
+
+pub value-length : {A : Type 0} (f : Field A) (b : List ℕ) → isValue f b ≡ true → length b ≡ f .width
+value-length f b h = eqb-true (length b) (f .width) (and-left _ (f .good b) h)
+
+pub value-some : {A : Type 0} (f : Field A) (b : List ℕ) → isValue f b ≡ true → decode f b ≡ some (f .get b)
+value-some {A} f b h = ap {B = Option A} (λ (t : Bool). cond t (some (f .get b)) none) h
+
+pub value-none : {A : Type 0} (f : Field A) (b : List ℕ) → isValue f b ≡ false → decode f b ≡ none
+value-none {A} f b h = ap {B = Option A} (λ (t : Bool). cond t (some (f .get b)) none) h
+
+pub record Decoded {A : Type 0} (f : Field A) (b : List ℕ) (x : A) : Type 0 where
+  pub good : isValue f b ≡ true
+  pub is : f .get b ≡ x
+
+pub decoded : {A : Type 0} (f : Field A) (b : List ℕ) (x : A) → decode f b ≡ some x → Decoded f b x
+decoded f b x e = by (isValue f b) refl e
+  where
+    by : (t : Bool) → isValue f b ≡ t → cond t (some (f .get b)) none ≡ some x → Decoded f b x
+    by true g h = record { good = g; is = Option·some-injective (f .get b) x h }
+    by false g h = absurd (Option·none-ne-some x h)
+
+module _ {A : Type 0} {f : Field A} {F : A → Type 0} (p : Lawful f F) where
+  pub back : Back f F
+  back x h =
+      let b : List ℕ = f .put x in
+      let g : f .good b ≡ true = ap (f .good) (sym (append-nil b)) ∙ p .passes x [] h in
+      let v : f .get b ≡ x = ap (f .get) (sym (append-nil b)) ∙ p .back x [] h in
+      ap (λ (t : Bool). cond (t && f .good b) (some (f .get b)) none) (eq-eqb (length b) (f .width) (p .size x h))
+      ∙ ap (λ (t : Bool). cond t (some (f .get b)) none) g
+      ∙ ap {B = Option A} some v
+
+  encoded : (b : List ℕ) → AreBytes b → isValue f b ≡ true → f .put (f .get b) ≡ b
+  encoded b h e =
+      let l = value-length f b e in
+      p .only b h (omega arith) (and-right (eqb (length b) (f .width)) (f .good b) e) ∙ take-all (f .width) b (omega arith)
+
+  pub only : Only f
+  only b x h e =
+      let d = decoded f b x e in
+      sym (encoded b h (d .good)) ∙ ap (f .put) (d .is)
