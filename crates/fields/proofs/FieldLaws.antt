@@ -10,9 +10,9 @@ use native.Mathlib.Omega.{arith}
 use borrow.Author.Tests.{lt-ltb, ltb-true, eq-eqb, eqb-true}
 use lib.ListN.{length, take, drop, getD, length-append, length-drop}
 use lib.Dec.{eqb}
-use lib.Seq.{getD-drop, drop-at, take-add, take-all}
+use lib.Seq.{getD-drop, drop-at, take-at, take-add, take-all}
 use mir.Val.{boolByte}
-use Rattle.fields.specs.Fields.{Field, bytesOf, little, number, choice, flag, both, putAll, getAll, goodAll, many, standing, isValue, decode}
+use Rattle.fields.specs.Fields.{Field, bytesOf, little, number, choice, flag, below, bytes, both, putAll, getAll, goodAll, many, standing, isValue, decode}
 use Rattle.fields.specs.Laws.{AreBytes, AllFit, Lawful, Back, Only}
 
 pub bytes-drop : (n : ℕ) (b : List ℕ) → AreBytes b → AreBytes (drop n b)
@@ -66,9 +66,9 @@ number-lawful w = record { size = λ n h. number-size w n; back = number-back w;
 
 -- ---- a choice
 
-pub record Coded {A : Type 0} (count : ℕ) (code : A → ℕ) (of : ℕ → A) : Type 0 where
-  pub below : (a : A) → code a < count
-  pub back : (a : A) → of (code a) ≡ a
+pub record Coded {A : Type 0} (count : ℕ) (code : A → ℕ) (of : ℕ → A) (Fits : A → Type 0) : Type 0 where
+  pub below : (a : A) → Fits a → code a < count
+  pub back : (a : A) → Fits a → of (code a) ≡ a
   pub only : (n : ℕ) → n < count → code (of n) ≡ n
 
 abbrev pub Any : {A : Type 0} → A → Type 0
@@ -78,11 +78,11 @@ pub all-any : {A : Type 0} (l : List A) → AllFit Any l
 all-any [] = tt
 all-any (x ∷ xs) = (tt, all-any xs)
 
-pub choice-lawful : {A : Type 0} (count : ℕ) (code : A → ℕ) (of : ℕ → A) → Coded count code of → Lawful (choice count code of) Any
+pub choice-lawful : {A : Type 0} {F : A → Type 0} (count : ℕ) (code : A → ℕ) (of : ℕ → A) → Coded count code of F → Lawful (choice count code of) F
 choice-lawful count code of c = record {
   size = λ a h. refl;
-  back = λ a r h. c .back a;
-  passes = λ a r h. lt-ltb (code a) count (c .below a);
+  back = λ a r h. c .back a h;
+  passes = λ a r h. lt-ltb (code a) count (c .below a h);
   only = one;
 }
   where
@@ -95,23 +95,39 @@ choice-lawful count code of c = record {
 
 -- ---- a flag
 
-flag-coded : Coded 2 boolByte (λ n. eqb n 1)
+pub flag-only : (n : ℕ) → n < 2 → boolByte (eqb n 1) ≡ n
+flag-only zero h = refl
+flag-only (suc zero) h = refl
+flag-only (suc (suc n)) h = absurd (omega arith)
+
+flag-coded : Coded 2 boolByte (λ n. eqb n 1) Any
 flag-coded = record {
-  below = elim [ true ↦ omega arith | false ↦ omega arith ];
-  back = elim [ true ↦ refl | false ↦ refl ];
-  only = one;
+  below = elim [ true ↦ λ h. omega arith | false ↦ λ h. omega arith ];
+  back = elim [ true ↦ λ h. refl | false ↦ λ h. refl ];
+  only = flag-only;
 }
-  where
-    one : (n : ℕ) → n < 2 → boolByte (eqb n 1) ≡ n
-    one zero h = refl
-    one (suc zero) h = refl
-    one (suc (suc n)) h = absurd (none′ h)
-      where
-        none′ : suc (suc n) < 2 → ⊥
-        none′ k = omega arith
 
 pub flag-lawful : Lawful flag Any
 flag-lawful = choice-lawful 2 boolByte (λ n. eqb n 1) flag-coded
+
+-- ---- a number below another
+
+pub below-lawful : (n : ℕ) → n ≤ 256 → Lawful (below n) (λ x. x < n)
+below-lawful n k = choice-lawful n (λ x. x % 256) (λ x. x) (record {
+  below = λ x h. omega arith;
+  back = λ x h. omega arith;
+  only = λ x h. omega arith;
+})
+
+-- ---- bytes as they are
+
+pub bytes-lawful : (n : ℕ) → Lawful (bytes n) (λ l. length l ≡ n)
+bytes-lawful n = record {
+  size = λ l h. h;
+  back = λ l r h. take-at l r n h;
+  passes = λ l r h. refl;
+  only = λ b h l g. refl;
+}
 
 -- ---- one behind another
 

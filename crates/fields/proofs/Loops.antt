@@ -7,11 +7,12 @@ use mathlib.Core.Path.{_≡_, refl, sym, ap, _∙_}
 use native.Mathlib.Nat.{mul-suc}
 use native.Mathlib.Numerals.{add-one}
 use native.Mathlib.Omega.{arith}
-use lib.ListN.{length, take, drop, getD, set, length-append, length-take}
+use lib.ListN.{length, take, drop, getD, set, length-append}
 use lib.Seq.{take-suc, take-suc-set, take-all, drop-drop}
 use Rattle.buffer.specs.Bytes.{write}
 use Rattle.buffer.proofs.WriteLaws.{write-twice, write-none}
 use Rattle.fields.specs.Fields.{Field, putAll, getAll, goodAll}
+use Rattle.fields.proofs.FieldLaws.{and-left, and-right}
 
 -- ---- reading: a list that agrees with another in its first i elements
 
@@ -28,7 +29,7 @@ module _ {A : Type 0} (f : Field A) where
   length-getAll zero b = refl
   length-getAll (suc n) b = ap suc (length-getAll n (drop (f .width) b))
 
-  getAll-first : (n i : ℕ) (b : List ℕ) (d : A) → i < n → getD (getAll f n b) i d ≡ f .get (drop (f .width * i) b)
+  pub getAll-first : (n i : ℕ) (b : List ℕ) (d : A) → i < n → getD (getAll f n b) i d ≡ f .get (drop (f .width * i) b)
   unfolding getAll
   getAll-first zero i b d h = absurd (none h)
     where
@@ -69,7 +70,19 @@ module _ {A : Type 0} (f : Field A) where
       let e : n ≡ 0 = omega arith in
       rw e
 
-  -- ---- putting: the first i values are put from a place on
+  -- all are good, so each is
+  pub good-at : (n i : ℕ) (b : List ℕ) → i < n → goodAll f n b ≡ true → f .good (drop (f .width * i) b) ≡ true
+  unfolding goodAll
+  good-at zero i b h g = absurd (omega arith)
+  good-at (suc n) zero b h g =
+      let e : f .width * 0 ≡ 0 = omega arith in
+      rw e (and-left (f .good b) (goodAll f n (drop (f .width) b)) g)
+  good-at (suc n) (suc i) b h g =
+      let e : f .width + f .width * i ≡ f .width * suc i = omega (arith, mul-suc (f .width) i) in
+      ap (f .good) (sym (drop-drop (f .width * i) (f .width) b ∙ ap (λ (k : ℕ). drop k b) e))
+      ∙ good-at n i (drop (f .width) b) (omega arith) (and-right (f .good b) (goodAll f n (drop (f .width) b)) g)
+
+  -- ---- putting: the first i values are put from a place on, each as long as the field
 
   putAll-append : (xs ys : List A) → putAll f (xs ++ ys) ≡ putAll f xs ++ putAll f ys
   unfolding putAll
@@ -81,26 +94,32 @@ module _ {A : Type 0} (f : Field A) where
   putAll-length [] h = omega arith
   putAll-length (x ∷ xs) h = omega (arith, length-append (f .put x) (putAll f xs), h x, putAll-length xs h, mul-suc (f .width) (length xs))
 
-  abbrev pub putTo : List ℕ → ℕ → List A → ℕ → List ℕ
-  putTo out at l i = write out at (putAll f (take i l))
+  pub record PutTo (out : List ℕ) (at : ℕ) (l : List A) (i : ℕ) (now : List ℕ) : Type 0 where
+    pub is : now ≡ write out at (putAll f (take i l))
+    pub size : length (putAll f (take i l)) ≡ f .width * i
 
-  module _ (size : (a : A) → length (f .put a) ≡ f .width) (out : List ℕ) (at : ℕ) (l : List A) where
-    pub put-none : out ≡ putTo out at l 0
+  module _ (out : List ℕ) (at : ℕ) (l : List A) where
+    pub put-none : PutTo out at l 0 out
     unfolding putAll
-    put-none = sym (write-none out at)
+    put-none = record { is = sym (write-none out at); size = omega arith }
 
-    put-next : (d : A) (i : ℕ) → i < length l → write (putTo out at l i) (at + f .width * i) (f .put (getD l i d)) ≡ putTo out at l (i + 1)
+    pub put-more : (now : List ℕ) (d : A) (i : ℕ) → i < length l → length (f .put (getD l i d)) ≡ f .width → PutTo out at l i now
+        → PutTo out at l (i + 1) (write now (at + f .width * i) (f .put (getD l i d)))
     unfolding putAll
-    put-next d i h =
-        let n : length (take i l) ≡ i = omega (arith, length-take i l) in
-        let k : length (putAll f (take i l)) ≡ f .width * i = putAll-length (take i l) size ∙ ap (λ (m : ℕ). f .width * m) n in
-        let one : putAll f (take i l) ++ f .put (getD l i d) ≡ putAll f (take (i + 1) l) = rw (add-one, take-suc l i d h, putAll-append, append-nil) in
-        ap (λ (m : ℕ). write (putTo out at l i) (at + m) (f .put (getD l i d))) (sym k)
-        ∙ write-twice out at (putAll f (take i l)) (f .put (getD l i d))
-        ∙ ap (write out at) one
+    put-more now d i h k t =
+        let x : List ℕ = f .put (getD l i d) in
+        let one : putAll f (take i l) ++ x ≡ putAll f (take (i + 1) l) = rw (add-one, take-suc l i d h, putAll-append, append-nil) in
+        record {
+          is =
+              ap (λ (o : List ℕ). write o (at + f .width * i) x) (t .is)
+              ∙ ap (λ (m : ℕ). write (write out at (putAll f (take i l))) (at + m) x) (sym (t .size))
+              ∙ write-twice out at (putAll f (take i l)) x
+              ∙ ap (write out at) one;
+          size = ap length (sym one) ∙ omega (arith, length-append (putAll f (take i l)) x, t .size, k, mul-suc (f .width) i);
+        }
 
-    pub put-more : (now : List ℕ) (d : A) (i : ℕ) → i < length l → now ≡ putTo out at l i → write now (at + f .width * i) (f .put (getD l i d)) ≡ putTo out at l (i + 1)
-    put-more now d i h e = ap (λ (o : List ℕ). write o (at + f .width * i) (f .put (getD l i d))) e ∙ put-next d i h
+    pub put-all : (now : List ℕ) (i : ℕ) → length l ≤ i → PutTo out at l i now → now ≡ write out at (putAll f l)
+    put-all now i h t = t .is ∙ ap (λ (m : List A). write out at (putAll f m)) (take-all i l h)
 
-    pub put-all : (i : ℕ) → length l ≤ i → putTo out at l i ≡ write out at (putAll f l)
-    put-all i h = ap (λ (m : List A). write out at (putAll f m)) (take-all i l h)
+    pub put-size : (now : List ℕ) (i : ℕ) → length l ≤ i → PutTo out at l i now → length (putAll f l) ≡ f .width * i
+    put-size now i h t = ap (λ (m : List A). length (putAll f m)) (sym (take-all i l h)) ∙ t .size

@@ -4,7 +4,7 @@ use Prim.Native.Nat.{ℕ, zero, suc, _+_, _*_, _/_, _%_}
 use mathlib.Core.Bool.{Bool, true, cond, _&&_}
 use mathlib.Core.List.{List, [], _∷_, _++_}
 use mathlib.Core.Option.{Option, some, none}
-use lib.ListN.{length, drop, getD}
+use lib.ListN.{length, take, drop, getD}
 use lib.Dec.{ltb, eqb}
 use mir.Val.{boolByte}
 
@@ -37,6 +37,15 @@ choice count code of = record { width = 1; put = λ a. code a ∷ []; get = λ b
 -- 1 for true
 abbrev pub flag : Field Bool
 flag = choice 2 boolByte (λ n. eqb n 1)
+
+-- a number below n, which is 256 or less
+abbrev pub below : ℕ → Field ℕ
+below n = choice n (λ x. x % 256) (λ x. x)
+
+-- ---- n bytes as they are
+
+abbrev pub bytes : ℕ → Field (List ℕ)
+bytes n = record { width = n; put = λ l. l; get = take n; good = λ b. true }
 
 -- ---- one field behind another, a field n times, and a field whose values stand for others
 

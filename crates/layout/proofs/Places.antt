@@ -1,7 +1,7 @@
 -- What the code reads and puts at each place, against the layout: a line for each field.
 -- Assumes nothing.
 use Prim.Native.Nat.{ℕ, zero, suc, _+_, _*_, _<_}
-use mathlib.Core.Bool.{Bool, true, false, _&&_}
+use mathlib.Core.Bool.{Bool, false, _&&_}
 use mathlib.Core.List.{List, [], _∷_, _++_}
 use mathlib.Core.Path.{_≡_, refl, sym, ap, _∙_}
 use native.Mathlib.Nat.{add-zero, mod-eq-of-lt}
@@ -19,7 +19,7 @@ use Rattle.channel.specs.declared.Channel.{Channel}
 use Rattle.buffer.specs.Bytes.{write}
 use Rattle.buffer.proofs.WriteLaws.{set-write}
 use Rattle.fields.specs.Fields.{number, flag, both, many, getAll, goodAll, putAll}
-use Rattle.fields.proofs.Loops.{getAll-at, putAll-length, putTo, put-more}
+use Rattle.fields.proofs.Loops.{getAll-at, putAll-length, PutTo, put-more}
 use Rattle.fields.proofs.Places.{and-true, both-get, both-good, put-behind, byte-get, write-whole}
 use Rattle.layout.specs.State.{phaseOf, phase, phaseCount, slot, channel, pendingAt, slotsAt, streamsAt, stateLength, encode, isState, stateOf}
 
@@ -81,13 +81,11 @@ stream-at b i h =
     let e : streamsAt + i ≡ streamsAt + 1 * i = omega arith in
     sym (getAll-at flag 128 i streamsAt b false h ∙ ap (λ (n : ℕ). eqb n 1) (byte-get b (streamsAt + 1 * i) ∙ ap (λ (k : ℕ). getD b k 0) (sym e)))
 
-pub stream-put : (b now : List ℕ) (l : List Bool) (i : ℕ) → i < length l → now ≡ putTo flag b streamsAt l i
-    → set now (streamsAt + i) (boolByte (getD l i false)) ≡ putTo flag b streamsAt l (i + 1)
+pub stream-put : (b now : List ℕ) (l : List Bool) (i : ℕ) → i < length l → PutTo flag b streamsAt l i now
+    → PutTo flag b streamsAt l (i + 1) (set now (streamsAt + i) (boolByte (getD l i false)))
 stream-put b now l i h e =
     let k : streamsAt + i ≡ streamsAt + 1 * i = omega arith in
-    set-write now (streamsAt + i) (boolByte (getD l i false))
-    ∙ ap (λ (n : ℕ). write now n (boolByte (getD l i false) ∷ [])) k
-    ∙ put-more flag (λ x. refl) b streamsAt l now false i h e
+    rw (set-write now (streamsAt + i) (boolByte (getD l i false)), k) (put-more flag b streamsAt l now false i h refl e)
 
 -- ---- a state: its four parts behind one another
 

@@ -51,7 +51,7 @@ slot-lawful : Lawful slot SlotIn
 slot-lawful =
     standing-lawful
     (both-lawful (number-lawful 2)
-    (both-lawful (choice-lawful phaseCount code phaseOf (record { below = phase-below; back = phase-back; only = phase-only }))
+    (both-lawful (choice-lawful phaseCount code phaseOf (record { below = λ p h. phase-below p; back = λ p h. phase-back p; only = phase-only }))
     (both-lawful flag-lawful
     (number-lawful 2))))
     (λ x. (x .id, (x .phase, (x .databit, x .length))))
