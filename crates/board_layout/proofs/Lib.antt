@@ -1,0 +1,3 @@
+-- Laws of the board's bytes.
+mod Places
+pub mod BoardLaws

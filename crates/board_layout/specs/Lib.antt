@@ -1,0 +1,2 @@
+pub mod BoardBytes
+pub mod Laws
