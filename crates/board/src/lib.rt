@@ -81,7 +81,7 @@ impl Board {
     }
 
     // The coil at a place, the first board's where there is none.
-    fn coil_at(self, i: usize) -> Coil
+    pub fn coil_at(self, i: usize) -> Coil
         ensures { λ r. ⌜ r ≡ coilAt self i ⌝ }
     {
         let coils = self.coils;

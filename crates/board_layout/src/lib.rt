@@ -13,9 +13,9 @@ const ON: usize = 0;
 
 const LENGTH: usize = ON + 1;
 
-const LABEL: usize = LENGTH + 1;
+pub const LABEL: usize = LENGTH + 1;
 
-const COIL: usize = LABEL + 16;
+pub const COIL: usize = LABEL + 16;
 
 pub const BOARD: usize = 16 * COIL;
 

@@ -231,7 +231,7 @@ alike r o k (feeds input out ∷ cs) (bytes h more) =
     ∙ ap (fed (take (f .written) (f .output))) (alike (f .next) (feed-ok r input out o) (feed-small r input out (record { byte = h }) k) cs more)
 alike r o k (owns id ∷ cs) (ends more) =
     let a = finish r id in
-    ap (λ (x : Kept). answered (x .number) (calls (record { state = x .state; work = r .work }) cs)) (finish-is r o k id)
+    ap (λ (x : Kept). answered (x .number) (calls (record { state = x .bytes; work = r .work }) cs)) (finish-is r o k id)
     ∙ ap (answered (a .number)) (alike (a .next) (keeps .call r id o) (finish-small r id k) cs more)
     ∙ ap (λ (x : Reply Receiver). inBytes (answered (x .number) (session channel (x .next) cs))) (sym (own-is r o k id))
 

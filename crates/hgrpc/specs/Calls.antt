@@ -18,20 +18,22 @@ use Rattle.command.specs.Command.{checked, ifCommand}
 use Rattle.command.specs.Lookup.{argumentAt, integerAt, numberNumber, numberValue}
 use Rattle.layout.specs.State.{stateLength, encode, decode}
 
--- ---- the channel
+-- ---- a value in lent bytes
 
--- f of the decoded state; z where the bytes are no state
-abbrev pub ifState : {A : Type 0} → Option Channel → (Channel → A) → A → A
-ifState (some s) f z = f s
-ifState none f z = z
+-- f of the decoded value; z where the bytes are none
+abbrev pub ifValue : {A B : Type 0} → Option A → (A → B) → B → B
+ifValue (some x) f z = f x
+ifValue none f z = z
 
--- a number, and the state's bytes
+-- a number, and the lent bytes
 pub record Kept : Type 0 where
   pub number : ℕ
-  pub state : List ℕ
+  pub bytes : List ℕ
 
 abbrev pub kept : ℕ → List ℕ → Kept
-kept n b = record { number = n; state = b }
+kept n b = record { number = n; bytes = b }
+
+-- ---- the channel
 
 -- 3 where the bytes lent have another length
 unfoldable pub freshAnswer : List ℕ → Kept
@@ -41,7 +43,7 @@ abbrev pub replied : Reply Channel → Kept
 replied a = kept (a .number) (encode (a .next))
 
 unfoldable pub finishAnswer : List ℕ → ℕ → Kept
-finishAnswer b id = ifState (decode b) (λ s. replied (finishOf s id)) (kept 3 b)
+finishAnswer b id = ifValue (decode b) (λ s. replied (finishOf s id)) (kept 3 b)
 
 -- a number, the two counts, and every lent byte
 pub record Answer : Type 0 where
@@ -62,7 +64,7 @@ fedAnswer a = answer (a .number) (a .taken) (a .written) (encode (a .next .state
 unfoldable pub feedAnswer : List ℕ → List ℕ → List ℕ → List ℕ → Answer
 feedAnswer b work input out =
     cond (ltb (length work) workArea) (answer 2 0 0 b work out)
-    (ifState (decode b) (λ s. fedAnswer (feedOf s work input out))
+    (ifValue (decode b) (λ s. fedAnswer (feedOf s work input out))
     (answer 3 0 0 b work out))
 
 -- ---- the commands

@@ -56,7 +56,7 @@ calls q (feeds input out ∷ cs) =
     fed (take (a .written) (a .output)) (calls (record { state = a .state; work = a .work }) cs)
 calls q (owns id ∷ cs) =
     let a = finishAnswer (q .state) id in
-    answered (a .number) (calls (record { state = a .state; work = q .work }) cs)
+    answered (a .number) (calls (record { state = a .bytes; work = q .work }) cs)
 
 -- with the state at the end in bytes
 abbrev pub inBytes : Outcome Receiver → Outcome Lent

@@ -5,6 +5,7 @@ use command_map::Checked;
 ghost use mathlib.Core.Path.{_≡_};
 ghost use Prim.Native.Nat.{_-_};
 ghost use Rattle.command.specs.Command.{checked, numberOf};
+ghost use Rattle.command.specs.Lookup.{countOf};
 ghost use Rattle.hgrpc.specs.Calls.{part, integer, nameAnswer, argumentAnswer, integerAnswer};
 
 // The check of a command's bytes: 0, 24, 25 or 26.
@@ -13,6 +14,14 @@ pub extern "C" fn hgrpc_check(command: &[u8]) -> u32
     ensures { λ r. ⌜ r ≡ numberOf (checked (now (command .entry))) ⌝ }
 {
     command::name_number(command)
+}
+
+// How many arguments a command has, 0 if it is refused.
+#[no_mangle]
+pub extern "C" fn hgrpc_argument_count(command: &[u8]) -> u64
+    ensures { λ r. ⌜ r ≡ countOf (now (command .entry)) ⌝ }
+{
+    command::argument_count(command)
 }
 
 // How many places there are from one to another.
