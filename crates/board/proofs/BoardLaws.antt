@@ -18,7 +18,7 @@ use Rattle.board.specs.declared.Change.the-variants.{Switch, Label, AllO
 use Rattle.board.specs.Commands.{coilCount, longestLabel, changeOf, changeNumber}
 use Rattle.board.specs.Board.{firstCoil, firstBoard, coilAt, withCoil, switched, labelled, allOff, changed, applied, after}
 use Rattle.board.specs.Laws as laws
-use Rattle.board.specs.Laws.{SameLabel, Others, Switched, Labelled, RefusedKeeps, Done, AcceptedDoes, AskedAccepted, Clear, Kept, UnusedZero}
+use Rattle.board.specs.Laws.{SameLabel, Others, Switched, Labelled, RefusedKeeps, Done, AcceptedDoes, AskedAccepted, Clear, Every, UnusedZero}
 use Rattle.board.proofs.Asked.{Says, says, asks-set, asks-label, asks-off}
 
 -- ---- a refused command
@@ -97,13 +97,54 @@ asked-accepted s b = record {
   off = λ a. ap changeNumber (asks-off s a);
 }
 
--- ---- what a label's unused places read
+-- ---- what every command keeps of each coil
+
+-- a coil among those of a list with another one set
+set-all : (P : Coil → Type 0) (l : List Coil) (i : ℕ) (c : Coil) → ((j : ℕ) → P (getD l j firstCoil)) → P c → (j : ℕ) → P (getD (set l i c) j firstCoil)
+set-all P [] i c h k j = h j
+set-all P (x ∷ l) zero c h k zero = k
+set-all P (x ∷ l) zero c h k (suc j) = h (suc j)
+set-all P (x ∷ l) (suc i) c h k zero = h zero
+set-all P (x ∷ l) (suc i) c h k (suc j) = set-all P l i c (λ m. h (suc m)) k j
+
+-- what a coil keeps when it is switched or labelled
+pub record Stays (P : Coil → Type 0) : Type 0 where
+  pub switched : (v : Bool) (c : Coil) → P c → P (switched v c)
+  pub labelled : (t : List ℕ) (c : Coil) → length t ≤ longestLabel → P (labelled t c)
+
+module _ (P : Coil → Type 0) (stays : Stays P) where
+  set-every : (b : Board) (i : ℕ) (c : Coil) → Every P b → P c → Every P (withCoil b i c)
+  set-every b i c k h = record { sixteen = length-set (b .coils) i c ∙ k .sixteen; coils = set-all P (b .coils) i c (k .coils) h }
+
+  off-every : (b : Board) → Every P b → Every P (allOff b)
+  off-every b k = record { sixteen = off-count b ∙ k .sixteen; coils = λ i. rw (off-coil b i) (stays .switched false (coilAt b i) (k .coils i)) }
+
+  pub applied-every : (s : List ℕ) (b : Board) → Every P b → Every P (applied s b .board)
+  unfolding applied
+  applied-every s b k = by (changeOf s) (says s)
+    where
+      by : (x : Change) → Says s x → Every P (changed s x b)
+      by (Switch i v) d = set-every b i _ k (stays .switched v (coilAt b i) (k .coils i))
+      by (Label i start stop) d = set-every b i _ k (stays .labelled (part s start stop) (coilAt b i) (d .asks .fits))
+      by AllOff d = off-every b k
+      by (Refused n) d = k
+
+  pub after-every : (b : Board) (commands : List (List ℕ)) → Every P b → Every P (after b commands)
+  unfolding after
+  after-every b [] k = k
+  after-every b (s ∷ commands) k = after-every (applied s b .board) commands (applied-every s b k)
 
 -- a list of one value reads that value everywhere
 alike : {A : Type 0} (n j : ℕ) (a : A) → getD (replicate n a) j a ≡ a
 alike zero j a = refl
 alike (suc n) zero a = refl
 alike (suc n) (suc j) a = alike n j a
+
+pub first-every : (P : Coil → Type 0) → P firstCoil → Every P firstBoard
+unfolding firstBoard
+first-every P h = record { sixteen = length-replicate coilCount firstCoil; coils = λ i. rw (alike coilCount i firstCoil) h }
+
+-- ---- what a label's unused places read
 
 past-text : (n : ℕ) (t : List ℕ) (j : ℕ) → length t ≤ j → getD (write (replicate n 0) 0 t) j 0 ≡ 0
 unfolding write
@@ -115,47 +156,11 @@ past-text (suc n) (x ∷ t) (suc j) h = past-text n t j (omega arith)
 first-clear : Clear firstCoil
 first-clear = record { fits = lit≤ tt; places = refl; unused = λ j h. alike longestLabel j 0 }
 
-switched-clear : (v : Bool) (c : Coil) → Clear c → Clear (switched v c)
-switched-clear v c k = record { fits = k .fits; places = k .places; unused = k .unused }
-
-labelled-clear : (t : List ℕ) (c : Coil) → length t ≤ longestLabel → Clear (labelled t c)
-labelled-clear t c h = record { fits = h; places = length-write (replicate longestLabel 0) 0 t; unused = λ j k. past-text longestLabel t j k }
-
--- a coil among those of a list with another one set
-set-all : (P : Coil → Type 0) (l : List Coil) (i : ℕ) (c : Coil) → ((j : ℕ) → P (getD l j firstCoil)) → P c → (j : ℕ) → P (getD (set l i c) j firstCoil)
-set-all P [] i c h k j = h j
-set-all P (x ∷ l) zero c h k zero = k
-set-all P (x ∷ l) zero c h k (suc j) = h (suc j)
-set-all P (x ∷ l) (suc i) c h k zero = h zero
-set-all P (x ∷ l) (suc i) c h k (suc j) = set-all P l i c (λ m. h (suc m)) k j
-
-set-kept : (b : Board) (i : ℕ) (c : Coil) → Kept b → Clear c → Kept (withCoil b i c)
-set-kept b i c k h = record { sixteen = length-set (b .coils) i c ∙ k .sixteen; labels = set-all Clear (b .coils) i c (k .labels) h }
-
-off-kept : (b : Board) → Kept b → Kept (allOff b)
-off-kept b k = record {
-  sixteen = off-count b ∙ k .sixteen;
-  labels = λ i. rw (off-coil b i) (switched-clear false (coilAt b i) (k .labels i));
+clear-stays : Stays Clear
+clear-stays = record {
+  switched = λ v c k. record { fits = k .fits; places = k .places; unused = k .unused };
+  labelled = λ t c h. record { fits = h; places = length-write (replicate longestLabel 0) 0 t; unused = λ j k. past-text longestLabel t j k };
 }
 
-applied-kept : (s : List ℕ) (b : Board) → Kept b → Kept (applied s b .board)
-unfolding applied
-applied-kept s b k = by (changeOf s) (says s)
-  where
-    by : (x : Change) → Says s x → Kept (changed s x b)
-    by (Switch i v) d = set-kept b i _ k (switched-clear v (coilAt b i) (k .labels i))
-    by (Label i start stop) d = set-kept b i _ k (labelled-clear (part s start stop) (coilAt b i) (d .asks .fits))
-    by AllOff d = off-kept b k
-    by (Refused n) d = k
-
-after-kept : (b : Board) (commands : List (List ℕ)) → Kept b → Kept (after b commands)
-unfolding after
-after-kept b [] k = k
-after-kept b (s ∷ commands) k = after-kept (applied s b .board) commands (applied-kept s b k)
-
-first-kept : Kept firstBoard
-unfolding firstBoard
-first-kept = record { sixteen = length-replicate coilCount firstCoil; labels = λ i. rw (alike coilCount i firstCoil) first-clear }
-
 pub unused-zero : UnusedZero
-unused-zero commands = after-kept firstBoard commands first-kept
+unused-zero commands = after-every Clear clear-stays firstBoard commands (first-every Clear first-clear)

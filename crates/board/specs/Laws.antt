@@ -117,10 +117,11 @@ pub record Clear (c : Coil) : Type 0 where
   pub places : length (c .label) ≡ longestLabel
   pub unused : (j : ℕ) → c .length ≤ j → getD (c .label) j 0 ≡ 0
 
-pub record Kept (b : Board) : Type 0 where
+-- sixteen coils, and something of each
+pub record Every (P : Coil → Type 0) (b : Board) : Type 0 where
   pub sixteen : length (b .coils) ≡ coilCount
-  pub labels : (i : ℕ) → Clear (coilAt b i)
+  pub coils : (i : ℕ) → P (coilAt b i)
 
 -- from the first board, after every list of commands
 abbrev pub UnusedZero : Type 0
-UnusedZero = (commands : List (List ℕ)) → Kept (after firstBoard commands)
+UnusedZero = (commands : List (List ℕ)) → Every Clear (after firstBoard commands)
