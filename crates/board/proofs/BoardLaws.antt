@@ -18,7 +18,7 @@ use Rattle.board.specs.declared.Change.the-variants.{Switch, Label, AllO
 use Rattle.board.specs.Commands.{coilCount, longestLabel, changeOf, changeNumber}
 use Rattle.board.specs.Board.{firstCoil, firstBoard, coilAt, withCoil, switched, labelled, allOff, changed, applied, after}
 use Rattle.board.specs.Laws as laws
-use Rattle.board.specs.Laws.{SameLabel, Others, Switched, Labelled, RefusedKeeps, Done, AcceptedDoes, AskedAccepted, Clear, Every, UnusedZero}
+use Rattle.board.specs.Laws.{AsksSet, SameLabel, Others, Switched, Labelled, RefusedKeeps, Done, AcceptedDoes, AskedAccepted, Clear, Every, UnusedZero}
 use Rattle.board.proofs.Asked.{Says, says, asks-set, asks-label, asks-off}
 
 -- ---- a refused command
@@ -88,6 +88,11 @@ accepted-does s b sixteen = by (changeOf s) (says s)
         Done.label i (part s start stop) (d .asks) (d .only) (label-does b i (omega arith) (part s start stop) (d .asks .fits))
     by AllOff d e = Done.off (d .asks) (d .only) (off-does b)
     by (Refused n) d e = absurd (d e)
+
+-- the same, from what a command asks for
+pub set-does : (s : List ℕ) (b : Board) (i : ℕ) (v : Bool) → length (b .coils) ≡ coilCount → AsksSet s i v → Switched b (applied s b .board) i v
+unfolding applied
+set-does s b i v sixteen a = let h = a .coil .below in rw (asks-set s i v a) (switch-does b i (omega arith) v)
 
 pub asked-accepted : AskedAccepted
 unfolding applied

@@ -7,7 +7,7 @@ use Rattle.frame.specs.Records.{recordOf}
 use Rattle.records.specs.Records.{numberAt, headOf, AllReadBack}
 
 -- a number below 65,536 in two bytes
-joined : (n : ℕ) → n < 65536 → n % 256 + 256 * (n / 256 % 256) ≡ n
+pub joined : (n : ℕ) → n < 65536 → n % 256 + 256 * (n / 256 % 256) ≡ n
 joined n h = omega arith
 
 pub all-read-back : AllReadBack

@@ -20,7 +20,7 @@ use Rattle.command_map.specs.declared.Checked.the-variants.{Command, NotItem, N
 use Rattle.command.specs.declared.Place.{Place}
 use Rattle.command.specs.declared.Place.the-variants.{Found, NotFound}
 use Rattle.command.specs.Command.{checked, numberOf}
-use Rattle.command.specs.Lookup.{placeNumber, placeOf, signedOf, nameOf, argumentAt, partAt, integerIn, integerAt}
+use Rattle.command.specs.Lookup.{placeNumber, placeOf, signedOf, nameOf, countOf, argumentAt, partAt, integerIn, integerAt}
 use Rattle.demands.proofs.SeenLaws.{never}
 use Rattle.sender.specs.Parts.{commandBytes, nameStart, nameStop, firstPair, pairsEnd, nameFits, byKeys, partsChecked}
 use Rattle.sender.proofs.PartLaws.{to-pairs, pairs-place, pairs-after, name-content, checked-by-parts}
@@ -92,9 +92,10 @@ module _ (name pairs : List ℕ) (count : ℕ) (hn : length name < 2 ^ 64) (hc :
   place key = rw (check, pairs-place name pairs count, pairs-after name pairs count) (found-shift (to-pairs name pairs count) pairs count key)
 
   pub reads-back : ReadsBack name pairs count s
-  unfolding nameOf integerAt
+  unfolding nameOf countOf integerAt
   reads-back = record {
     named = rw check (name-content name pairs count);
+    counted = rw check;
     number = λ key. rw (place key) (number-shift (length (to-pairs name pairs count)) (placeIn pairs count key));
     value = λ key. rw (place key, pairs-after name pairs count) (value-shift (to-pairs name pairs count) pairs (placeIn pairs count key));
     integer = λ key. rw (place key, pairs-after name pairs count) (integer-shift (to-pairs name pairs count) pairs (placeIn pairs count key));

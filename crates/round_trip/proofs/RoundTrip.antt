@@ -49,13 +49,13 @@ passed false false false false true false true out w h = never 53 h
 passed false false false false true false false out w h = (refl, refl, refl, refl, refl, refl, refl, refl)
 
 -- what a message that is sent with 0 passed, and what was written
-record NotRefused (how : Wishes) (command : List ℕ) (with-data : Bool) (bytes out : List ℕ) : Type 0 where
-  sendable : Fits how → Sendable how
-  check : numberOf (checked command) ≡ 0
-  long : length command ≤ maxCommand
-  written : writtenBytes (sendOf how command with-data bytes out) ≡ allBytes (messageFrames how command with-data bytes)
+pub record NotRefused (how : Wishes) (command : List ℕ) (with-data : Bool) (bytes out : List ℕ) : Type 0 where
+  pub sendable : Fits how → Sendable how
+  pub check : numberOf (checked command) ≡ 0
+  pub long : length command ≤ maxCommand
+  pub written : writtenBytes (sendOf how command with-data bytes out) ≡ allBytes (messageFrames how command with-data bytes)
 
-not-refused : (how : Wishes) (command : List ℕ) (with-data : Bool) (bytes out : List ℕ) → sendOf how command with-data bytes out .number ≡ 0
+pub not-refused : (how : Wishes) (command : List ℕ) (with-data : Bool) (bytes out : List ℕ) → sendOf how command with-data bytes out .number ≡ 0
     → NotRefused how command with-data bytes out
 unfolding sendOf framesInto
 not-refused how command with-data bytes out h =

@@ -1,0 +1,1 @@
+// What is claimed of a session and the board together: definitions and proofs, and no code.
