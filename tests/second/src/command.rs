@@ -122,6 +122,11 @@ pub fn lacks_args(command: &[u8]) -> bool {
     read(command).is_ok_and(|command| command.args.is_none())
 }
 
+/// The number of arguments; 0 if the command is refused.
+pub fn argument_count(command: &[u8]) -> u64 {
+    read(command).map_or(0, |command| command.arguments().len() as u64)
+}
+
 /// The name's content; no bytes if the command is refused.
 pub fn name(command: &[u8]) -> &[u8] {
     read(command).map_or(&[], |command| command.name)
@@ -184,6 +189,7 @@ mod tests {
         for bytes in [alone, redirected] {
             assert!(lacks_args(&bytes));
             assert_eq!(name(&bytes), b"set");
+            assert_eq!(argument_count(&bytes), 0);
             assert_eq!(argument_number(&bytes, b"k"), 6);
             assert!(argument(&bytes, b"k").is_empty());
             assert_eq!(integer_number(&bytes, b"k"), 6);
@@ -217,6 +223,9 @@ mod tests {
         assert!(argument(&bytes[1..], b"k").is_empty());
         let first = [b"\xa2\x44args\xa2\x41j\x81\x20\x41k\x05", NAME].concat();
         assert_eq!(argument(&first, b"j"), b"\x81\x20");
+        assert_eq!(argument_count(&first), 2);
+        assert_eq!(argument_count(&bytes), 1);
+        assert_eq!(argument_count(&bytes[1..]), 0);
     }
 
     /// T8 and T9.

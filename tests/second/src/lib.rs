@@ -1,8 +1,9 @@
 //! A second reading of the rules, written from the papers alone.
 //! A command's bytes are read into a tree of values first and the tree is
 //! judged after. The channel is told by the history of its frames. What is
-//! sent is a list of frames before it is bytes.
+//! sent is a list of frames before it is bytes. The board judges by tables.
 
+pub mod board;
 pub mod bytes;
 pub mod capture;
 pub mod command;

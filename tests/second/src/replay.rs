@@ -1,5 +1,6 @@
 //! The line interface: each line asks one thing, and its answer is one line.
 
+use crate::board::Board;
 use crate::bytes::{MOST_LENGTH, MOST_PENDING};
 use crate::command;
 use crate::receiver::Receiver;
@@ -19,6 +20,7 @@ pub struct Replay {
     /// The output of the last feed or send, and how much of it was written.
     output: Vec<u8>,
     written: usize,
+    board: Board,
 }
 
 impl Default for Replay {
@@ -27,6 +29,7 @@ impl Default for Replay {
             receiver: Receiver::start(State::fresh(), area(WORK, 0)),
             output: Vec::new(),
             written: 0,
+            board: Board::first(),
         }
     }
 }
@@ -34,6 +37,10 @@ impl Default for Replay {
 impl Replay {
     pub fn receiver(&self) -> &Receiver {
         &self.receiver
+    }
+
+    pub fn board(&self) -> &Board {
+        &self.board
     }
 
     /// The answer to a line, which stands here without its line end. None
@@ -69,6 +76,10 @@ impl Replay {
             ["name", bytes] => name(bytes),
             ["arg", bytes, key] => argument(bytes, key),
             ["int", bytes, key] => integer(bytes, key),
+            ["count", bytes] => count(bytes),
+            ["board"] => Some(board_text(&self.board)),
+            ["board", "fresh"] => Some(self.first_board()),
+            ["board", command] => self.apply(command),
             _ => None,
         }
     }
@@ -142,6 +153,16 @@ impl Replay {
         Some(format!("finished {}", self.receiver.finish(id)))
     }
 
+    fn first_board(&mut self) -> String {
+        self.board = Board::first();
+        "board fresh".to_string()
+    }
+
+    fn apply(&mut self, command: &str) -> Option<String> {
+        let number = self.board.apply(&from_hex(command)?);
+        Some(format!("board {number}"))
+    }
+
     fn tail(&self) -> String {
         let mut tail = self.output[self.written..].iter();
         let kept = tail.all(|byte| *byte == UNWRITTEN);
@@ -183,6 +204,21 @@ fn integer(bytes: &str, key: &str) -> Option<String> {
     let number = command::integer_number(&bytes, &key);
     let value = command::integer(&bytes, &key);
     Some(format!("integer {number} {value}"))
+}
+
+fn count(bytes: &str) -> Option<String> {
+    let bytes = from_hex(bytes)?;
+    Some(format!("counted {}", command::argument_count(&bytes)))
+}
+
+/// The board's coils, each with its switch, its label's length and all of the
+/// label's places.
+fn board_text(board: &Board) -> String {
+    let coils = board.coils.iter().map(|coil| {
+        let (on, length) = (u8::from(coil.on), coil.label.len());
+        format!(" {on}:{length}:{}", to_hex(&coil.places()))
+    });
+    "board".to_string() + &coils.collect::<String>()
 }
 
 /// Digits alone, and at most `most`.
@@ -346,13 +382,37 @@ mod tests {
             send 9 61 0 - 65536 1 0 0 1 none|send 9 61 0 - 1 1 0 0 18446744073709551616 none|\
             send 9 61 18446744073709551616 - 1 1 0 0 1 none|send 100001 61 0 - 1 1 0 0 1 none|\
             send 9 6 0 - 1 1 0 0 1 none|send 9 61 0 0g 1 1 0 0 1 none|send 9 none 0 - 1 1 0 0 1 none|\
-            send 9 61 0 none 1 1 0 0 1 none|send 9 61 0 - 1 1 0 0 1 None|send 9 61 -1 - 1 1 0 0 1 none";
+            send 9 61 0 none 1 1 0 0 1 none|send 9 61 0 - 1 1 0 0 1 None|send 9 61 -1 - 1 1 0 0 1 none|\
+            count|count 0|count 00 00|board |board 0|board 0A|board Fresh|board fresh fresh|board 00 00|board  00|boards";
         for line in lines.split('|') {
             let answer = replay.answer(line.as_bytes());
             assert_eq!(answer.as_deref(), Some("bad"), "{line}");
         }
         assert_eq!(replay.answer(b"\xff").as_deref(), Some("bad"));
         assert_eq!(replay.answer(b"state"), before);
+        assert_eq!(replay.board, Board::first());
+    }
+
+    #[test]
+    fn boards() {
+        let mut replay = Replay::default();
+        let empty = format!(" 0:0:{}", "0".repeat(32)).repeat(16);
+        let set = "a2446e616d65437365744461726773a244636f696c00426f6ef5";
+        for (line, answer) in [
+            ("board".to_string(), format!("board{empty}")),
+            (format!("board {set}"), "board 0".to_string()),
+            ("board -".to_string(), "board 24".to_string()),
+            (
+                "board".to_string(),
+                format!("board{}", empty.replacen('0', "1", 1)),
+            ),
+            ("board fresh".to_string(), "board fresh".to_string()),
+            ("board".to_string(), format!("board{empty}")),
+            (format!("count {set}"), "counted 2".to_string()),
+            ("count -".to_string(), "counted 0".to_string()),
+        ] {
+            assert_eq!(replay.answer(line.as_bytes()), Some(answer), "{line}");
+        }
     }
 
     #[test]
