@@ -1,7 +1,8 @@
 //! Both sides of one hgrpc channel: on the receiving side bytes of the line go
-//! in and records come out; the sending side writes a request's frames. These
-//! are the calls of the archive `libhgrpc.a`, which is for x86-64 Linux, as safe
-//! functions over slices. As a crate of its own:
+//! in and records come out; the sending side writes a request's frames. A board
+//! of sixteen coils does what the commands ask. These are the calls of the archive
+//! `libhgrpc.a`, which is for x86-64 Linux, as safe functions over slices. As a
+//! crate of its own:
 //!
 //!     rustc --edition 2021 --crate-type rlib --crate-name hgrpc \
 //!         -L native=target/staticlib -l static=hgrpc bindings/hgrpc.rs
@@ -28,6 +29,12 @@ pub const RECORD_HEAD: usize = 7;
 pub const COMMAND_LONGEST: usize = 2_048;
 /// The bytes of a frame's payload, at most.
 pub const PAYLOAD_LONGEST: usize = 4_096;
+/// The bytes of a board, exactly.
+pub const BOARD: usize = 288;
+/// The coils of a board, counted from 0.
+pub const COILS: usize = 16;
+/// The bytes of a coil's label, at most.
+pub const LABEL_LONGEST: usize = 16;
 
 /// The calls of the archive. A slice is a pointer, which is not null also where
 /// the length is 0, and a length; the slices of one call lie apart.
@@ -68,6 +75,27 @@ pub mod raw {
             key: *const u8,
             key_length: usize,
             value: *mut i64,
+        ) -> u32;
+        pub fn hgrpc_argument_count(command: *const u8, length: usize) -> u64;
+        pub fn hgrpc_board_first(board: *mut u8, board_length: usize) -> u32;
+        pub fn hgrpc_board_apply(
+            board: *mut u8,
+            board_length: usize,
+            command: *const u8,
+            length: usize,
+        ) -> u32;
+        pub fn hgrpc_board_switch(
+            board: *const u8,
+            board_length: usize,
+            coil: usize,
+            on: *mut bool,
+        ) -> u32;
+        pub fn hgrpc_board_label(
+            board: *const u8,
+            board_length: usize,
+            coil: usize,
+            at: *mut usize,
+            size: *mut usize,
         ) -> u32;
         pub fn hgrpc_send(
             name: *const u8,
@@ -226,6 +254,92 @@ pub fn integer(command: &[u8], key: &[u8]) -> Result<i64, u32> {
     }
 }
 
+/// The number of arguments; 0 if the check refuses the command.
+pub fn argument_count(command: &[u8]) -> u64 {
+    // The pointer comes with its own length.
+    unsafe { raw::hgrpc_argument_count(command.as_ptr(), command.len()) }
+}
+
+/// Sixteen coils, each on or off with a label of 0 to `LABEL_LONGEST` bytes.
+#[derive(Clone, Debug, PartialEq, Eq)]
+pub struct Board {
+    bytes: [u8; BOARD],
+}
+
+impl Board {
+    /// All off, with empty labels.
+    pub fn first() -> Board {
+        let mut bytes = [0; BOARD];
+        let number = first_board_bytes(&mut bytes);
+        assert_eq!(number, 0, "a board has {BOARD} bytes");
+        Board { bytes }
+    }
+
+    /// As `apply_bytes`.
+    pub fn apply(&mut self, command: &[u8]) -> u32 {
+        apply_bytes(&mut self.bytes, command)
+    }
+
+    /// Whether a coil is on; or 42, there is no such coil.
+    pub fn switch(&self, coil: usize) -> Result<bool, u32> {
+        switch_bytes(&self.bytes, coil)
+    }
+
+    /// A coil's label; or 42, there is no such coil.
+    pub fn label(&self, coil: usize) -> Result<&[u8], u32> {
+        label_bytes(&self.bytes, coil)
+    }
+
+    pub fn bytes(&self) -> &[u8] {
+        &self.bytes
+    }
+}
+
+/// 0: the bytes are the first board, all off with empty labels. 3: they are not
+/// `BOARD` in number, and nothing changed.
+pub fn first_board_bytes(board: &mut [u8]) -> u32 {
+    // The pointer comes with its own length.
+    unsafe { raw::hgrpc_board_first(board.as_mut_ptr(), board.len()) }
+}
+
+/// Has the board do a command: `set` with `coil` and `on`, `label` with `coil` and
+/// `text`, or `off`. 0: done, and all else of the board is as it was. 3 where the
+/// bytes are no board, then 24 to 26 and 40 to 43, tried in number order: nothing
+/// changed.
+pub fn apply_bytes(board: &mut [u8], command: &[u8]) -> u32 {
+    // Each pointer comes with its own length, and the slices lie apart.
+    unsafe {
+        raw::hgrpc_board_apply(
+            board.as_mut_ptr(),
+            board.len(),
+            command.as_ptr(),
+            command.len(),
+        )
+    }
+}
+
+/// Whether a coil is on; or 3, the bytes are no board, then 42, there is no such
+/// coil.
+pub fn switch_bytes(board: &[u8], coil: usize) -> Result<bool, u32> {
+    let mut on = false;
+    // The pointer comes with its own length.
+    let number = unsafe { raw::hgrpc_board_switch(board.as_ptr(), board.len(), coil, &mut on) };
+    match number {
+        0 => Ok(on),
+        _ => Err(number),
+    }
+}
+
+/// A coil's label, a part of the board's bytes; or 3, the bytes are no board, then
+/// 42, there is no such coil.
+pub fn label_bytes(board: &[u8], coil: usize) -> Result<&[u8], u32> {
+    let (mut at, mut size) = (0, 0);
+    // The pointer comes with its own length.
+    let number =
+        unsafe { raw::hgrpc_board_label(board.as_ptr(), board.len(), coil, &mut at, &mut size) };
+    part(board, number, at, size)
+}
+
 /// A request to be sent: a command, and data if some follows it.
 #[derive(Clone, Copy, Debug, PartialEq, Eq)]
 pub struct Request<'r> {
@@ -307,9 +421,9 @@ pub fn send(request: &Request, out: &mut [u8]) -> Sent {
     Sent { number, written }
 }
 
-fn part(command: &[u8], number: u32, at: usize, size: usize) -> Result<&[u8], u32> {
+fn part(bytes: &[u8], number: u32, at: usize, size: usize) -> Result<&[u8], u32> {
     match number {
-        0 => Ok(&command[at..][..size]),
+        0 => Ok(&bytes[at..][..size]),
         _ => Err(number),
     }
 }

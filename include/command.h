@@ -11,6 +11,9 @@
  * missing, and a missing `args` reads as an empty map. */
 uint32_t command_check(const uint8_t *command, size_t length);
 
+/* The number of arguments, 0 if the check refuses the command. */
+uint64_t command_argument_count(const uint8_t *command, size_t length);
+
 /* The check's number, then 6 if the key is absent, else 0. */
 uint32_t command_argument_number(const uint8_t *command, size_t length,
                                  const uint8_t *key, size_t key_length);

@@ -1,8 +1,8 @@
 /* Both sides of one hgrpc channel, for C99 and C++. On the receiving side bytes
  * of the line go in and records come out; the sending side writes a request's
- * frames. The calls are those of the archive libhgrpc.a, which is for x86-64
- * Linux, as the kit's compiler is, and needs memcpy and memset of its
- * surroundings and nothing else.
+ * frames. A board of sixteen coils does what the commands ask. The calls are
+ * those of the archive libhgrpc.a, which is for x86-64 Linux, as the kit's
+ * compiler is, and needs memcpy and memset of its surroundings and nothing else.
  *
  * The caller lends every buffer. A buffer is a pointer, which is not NULL also
  * where the length is 0, and a length; the buffers of one call lie apart from
@@ -19,7 +19,7 @@
  *       used id even or double; a free slot or one not collecting that breaks
  *       the rule above; dead number neither 0 nor 11 to 29; or, 8 or more
  *       pending, a held length above 4,096 or pending not below 8 plus it.
- *       Also: bytes that are no state at all
+ *       Also: bytes that are no state at all, or no board
  *    4  finish: id not running
  *    5  stopped for output, as above
  *    6  lookup: key absent
@@ -44,6 +44,10 @@
  *   27  data: id not waiting
  *   28  settings without beginning
  *   29  settings not identity
+ *   40  unknown command
+ *   41  argument missing, extra or of the wrong type
+ *   42  coil not 0 to 15
+ *   43  text over 16 bytes
  *   50  an even request or stream id
  *   51  a size outside the range
  *   52  a command the check would refuse
@@ -51,8 +55,9 @@
  *   54  output too short for the exact total
  *
  * 11 to 29 refuse a frame: the channel is then dead, and the number is its dead
- * number, which every later feed and finish on it answers. 50 to 54 refuse a
- * request that is to be sent, and change nothing. */
+ * number, which every later feed and finish on it answers. 40 to 43 refuse a
+ * command that the board is to do, and 50 to 54 a request that is to be sent; they
+ * change nothing. */
 
 #ifndef HGRPC_H
 #define HGRPC_H
@@ -73,6 +78,9 @@ extern "C" {
 #define HGRPC_COMMAND_LONGEST 2048 /* bytes of a command, at most */
 #define HGRPC_PAYLOAD_LONGEST 4096 /* bytes of a frame's payload, at most */
 #define HGRPC_REQUESTS 8           /* requests at a time, at most */
+#define HGRPC_BOARD 288            /* bytes of a board, exactly */
+#define HGRPC_COILS 16             /* coils of a board, counted from 0 */
+#define HGRPC_LABEL_LONGEST 16     /* bytes of a coil's label, at most */
 
 /* The kinds of records. */
 #define HGRPC_KIND_COMMAND 1 /* a command is whole; its bit says whether data follows */
@@ -107,6 +115,9 @@ uint32_t hgrpc_finish(uint8_t *state, size_t state_length, uint16_t id);
  * and `redirect` may be missing, and a missing `args` reads as an empty map. */
 uint32_t hgrpc_check(const uint8_t *command, size_t length);
 
+/* The number of arguments, 0 if hgrpc_check refuses the command. */
+uint64_t hgrpc_argument_count(const uint8_t *command, size_t length);
+
 /* 0: the command's name is `size` bytes from place `at` of the command on.
  * The check's 24, 25 or 26: `at` and `size` are 0. */
 uint32_t hgrpc_name(const uint8_t *command, size_t length, size_t *at, size_t *size);
@@ -121,6 +132,39 @@ uint32_t hgrpc_argument(const uint8_t *command, size_t length,
  * then 6, 7 or 8: `value` is 0. */
 uint32_t hgrpc_integer(const uint8_t *command, size_t length,
                        const uint8_t *key, size_t key_length, int64_t *value);
+
+/* 0: the bytes are the first board: all coils off, with empty labels. 3: the
+ * length is not HGRPC_BOARD, and nothing changed. */
+uint32_t hgrpc_board_first(uint8_t *board, size_t board_length);
+
+/* Has the board do a command:
+ *
+ *   set     `coil` and `on`, which is true or false: switches the coil
+ *   label   `coil` and `text`, a byte string of 0 to HGRPC_LABEL_LONGEST bytes:
+ *           the coil's label is then that text
+ *   off     no arguments: switches all coils off, and keeps their labels
+ *
+ * A command takes exactly these arguments, in any order, with heads of any width;
+ * `coil` is 0 to 15. 0: done, and all else of the board is as it was. Else the
+ * first that applies of: 3 the bytes are no board; 24, 25, 26 hgrpc_check refuses
+ * the command; 40 the command is none of these; 41 an argument is missing, there
+ * is another one, or one has another type, as `on` with null; 42 the coil is any
+ * other integer, however large; 43 the text is longer. With these nothing changed.
+ *
+ * The bytes of a board are for each coil its switch, 0 or 1, its label's length, 0
+ * to 16, and 16 places for the label, any bytes. On every board that came from the
+ * first one the places that a label does not use are 0. */
+uint32_t hgrpc_board_apply(uint8_t *board, size_t board_length,
+                           const uint8_t *command, size_t length);
+
+/* 0: `on` says whether the coil is on. 3 the bytes are no board, then 42 there is
+ * no such coil: `on` is false. */
+uint32_t hgrpc_board_switch(const uint8_t *board, size_t board_length, size_t coil, bool *on);
+
+/* 0: the coil's label is `size` bytes from place `at` of the board's bytes on. 3
+ * the bytes are no board, then 42 there is no such coil: `at` and `size` are 0. */
+uint32_t hgrpc_board_label(const uint8_t *board, size_t board_length, size_t coil,
+                           size_t *at, size_t *size);
 
 /* Writes the frames of one request: a command, and data if some follows it.
  *
@@ -224,6 +268,46 @@ static inline hgrpc_fed hgrpc_channel_feed(hgrpc_state *state,
 static inline uint32_t hgrpc_channel_finish(hgrpc_state *state, uint16_t id)
 {
     return hgrpc_finish(state->bytes, sizeof state->bytes, id);
+}
+
+/* ---- the same with the board as a struct ---- */
+
+/* Sixteen coils. A copy of the struct is a copy of the board. */
+typedef struct {
+    uint8_t bytes[HGRPC_BOARD];
+} hgrpc_board;
+
+/* What a coil does, and what it is called. `label` points into the board: the next
+ * command that the board does may change it. */
+typedef struct {
+    bool on;
+    const uint8_t *label;
+    size_t size;
+} hgrpc_coil;
+
+/* Makes the board the first one, all off with empty labels. It has no refusal,
+ * since the length is right. */
+static inline void hgrpc_coils_first(hgrpc_board *board)
+{
+    (void)hgrpc_board_first(board->bytes, sizeof board->bytes);
+}
+
+/* The answers of hgrpc_board_apply: 0 and the command is done, or 24 to 26 or 40 to
+ * 43 and nothing changed. 3 cannot be of a board that came from the first one. */
+static inline uint32_t hgrpc_coils_apply(hgrpc_board *board, const uint8_t *command, size_t length)
+{
+    return hgrpc_board_apply(board->bytes, sizeof board->bytes, command, length);
+}
+
+/* 0: `coil` is the board's coil of this number. 3, then 42: it is off, and its label
+ * is empty. */
+static inline uint32_t hgrpc_coils_look(const hgrpc_board *board, size_t number, hgrpc_coil *coil)
+{
+    size_t at;
+    uint32_t answer = hgrpc_board_label(board->bytes, sizeof board->bytes, number, &at, &coil->size);
+    coil->label = board->bytes + at;
+    (void)hgrpc_board_switch(board->bytes, sizeof board->bytes, number, &coil->on);
+    return answer;
 }
 
 /* ---- the records in an output ---- */

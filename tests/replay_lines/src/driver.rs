@@ -3,7 +3,9 @@
 use crate::room::{Edge, Room};
 use crate::state;
 use crate::words::{bit, bytes, hex, number, parts};
-use hgrpc::{feed_bytes, finish_bytes, fresh_bytes, send, Request, STATE, WORK};
+use hgrpc::{apply_bytes, first_board_bytes, label_bytes, switch_bytes};
+use hgrpc::{feed_bytes, finish_bytes, fresh_bytes, send, Request};
+use hgrpc::{BOARD, COILS, LABEL_LONGEST, STATE, WORK};
 use second::bytes as state_bytes;
 
 /// A longer line is bad.
@@ -13,7 +15,7 @@ const LENT: usize = 100_000;
 /// What an output holds before the call.
 const UNWRITTEN: u8 = 0xa5;
 
-/// A channel that lines drive. Each buffer has room of its own.
+/// A channel and a board that lines drive. Each buffer has room of its own.
 pub struct Driver {
     state: Room,
     work: Room,
@@ -24,6 +26,7 @@ pub struct Driver {
     name: Room,
     pairs: Room,
     data: Room,
+    board: Room,
     /// The length of the work area.
     size: usize,
     /// Of the last feed or send: the length of its output, and how much it
@@ -33,7 +36,8 @@ pub struct Driver {
 }
 
 impl Driver {
-    /// A fresh channel, whose buffers all lie against such an edge.
+    /// A fresh channel and the first board. The buffers all lie against such an
+    /// edge.
     pub fn new(edge: Edge) -> Driver {
         let mut driver = Driver {
             state: Room::new(STATE, edge),
@@ -45,11 +49,13 @@ impl Driver {
             name: Room::new(LINE / 2, edge),
             pairs: Room::new(LINE / 2, edge),
             data: Room::new(LINE / 2, edge),
+            board: Room::new(BOARD, edge),
             size: 0,
             asked: 0,
             written: 0,
         };
         driver.begin(WORK, 0);
+        driver.first_board();
         driver
     }
 
@@ -72,6 +78,10 @@ impl Driver {
         self.work.lent(self.size)
     }
 
+    pub fn board(&self) -> &[u8] {
+        self.board.lent(BOARD)
+    }
+
     /// None if the words cannot be read; nothing has changed then.
     fn run(&mut self, words: &[&[u8]]) -> Option<String> {
         match *words {
@@ -90,6 +100,10 @@ impl Driver {
             [b"name", command] => self.name(command),
             [b"arg", command, key] => self.argument(command, key),
             [b"int", command, key] => self.integer(command, key),
+            [b"count", command] => self.count(command),
+            [b"board"] => Some(self.board_words()),
+            [b"board", b"fresh"] => Some(self.first_board()),
+            [b"board", command] => self.apply(command),
             _ => None,
         }
     }
@@ -227,6 +241,39 @@ impl Driver {
             Ok(value) => format!("integer 0 {value}"),
             Err(number) => format!("integer {number} 0"),
         })
+    }
+
+    fn count(&mut self, command: &[u8]) -> Option<String> {
+        let command = self.command.put(&bytes(command)?);
+        Some(format!("counted {}", hgrpc::argument_count(command)))
+    }
+
+    fn first_board(&mut self) -> String {
+        let number = first_board_bytes(self.board.lend(BOARD));
+        assert_eq!(number, 0, "a board of {BOARD} bytes is made the first");
+        "board fresh".to_string()
+    }
+
+    fn apply(&mut self, command: &[u8]) -> Option<String> {
+        let command = bytes(command)?;
+        let number = apply_bytes(self.board.lend(BOARD), self.command.put(&command));
+        let lent = self.command.lent(command.len());
+        assert!(lent == command, "a command is only read");
+        Some(format!("board {number}"))
+    }
+
+    /// The switches and labels by their calls; what is behind a label stands in
+    /// the board's bytes.
+    fn board_words(&self) -> String {
+        let board = self.board();
+        let coils = (0..COILS).map(|coil| {
+            let on = switch_bytes(board, coil).expect("a coil is on or off");
+            let label = label_bytes(board, coil).expect("a coil has a label");
+            let at = label.as_ptr() as usize - board.as_ptr() as usize;
+            let places = hex(&board[at..][..LABEL_LONGEST]);
+            format!(" {}:{}:{places}", u8::from(on), label.len())
+        });
+        "board".to_string() + &coils.collect::<String>()
     }
 }
 
