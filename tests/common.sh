@@ -86,14 +86,38 @@ change() {
     fi
 }
 
-# Makes a wrong copy of the second implementation, named $1, by sed's
-# expression $3 in file $2, compiled at level $4 or 0. `copy` is its folder.
-wrong_copy() {
+# Makes a copy of the second implementation, named $1, by sed's expression $3 in
+# file $2, compiled at level $4 or 0. `copy` is its folder. Copies are compiled in
+# one place, one after another, so that little is compiled anew.
+make_copy() {
+    local level=${4:-0} place=$out/wrong/place.$BASHPID
     copy=$out/wrong/$1
     mkdir -p "$copy"
-    cp tests/second/src/*.rs "$copy"
-    change "$3" "tests/second/src/$2" "$copy/$2"
-    rustc --edition 2021 -A warnings -C opt-level="${4:-0}" --crate-type rlib --crate-name second \
-        --out-dir "$copy" "$copy/lib.rs"
+    if [ ! -d "$place" ]; then
+        mkdir "$place"
+        cp tests/second/src/*.rs "$place"
+    fi
+    change "$3" "tests/second/src/$2" "$place/$2"
+    rustc --edition 2021 -A warnings -C opt-level="$level" -C incremental="$place/level$level" \
+        --crate-type rlib --crate-name second --out-dir "$place" "$place/lib.rs"
+    cp "tests/second/src/$2" "$place"
+    cp "$place/libsecond.rlib" "$copy"
+}
+
+# The same for a wrong copy, which is counted.
+wrong_copy() {
+    make_copy "$@"
     wrongs=$((wrongs + 1))
+}
+
+# Wrong copies that answer lines: one for each expression of the array $1 in file
+# $2, which is not counted. Their folders are in $out/wrong/$1.
+make_wrong_lines() {
+    local -n expressions=$1
+    local name
+    for name in "${!expressions[@]}"; do
+        make_copy "$1/$name" "$2" "${expressions[$name]}"
+        rustc --edition 2021 -o "$copy/second_replay" --extern second="$copy/libsecond.rlib" \
+            tests/second_replay.rs
+    done
 }

@@ -6,7 +6,7 @@
 //!     round_trip run SEED COUNT       every accepted one of COUNT requests
 //!     round_trip damaged SEED COUNT   the same with a bit of the first length changed on the way
 
-#[path = "round_trip/tally.rs"]
+#[path = "tally.rs"]
 mod tally;
 
 use generate::{Random, Sending};
@@ -17,6 +17,20 @@ use second::state::{Phase, Slot, State, SLOTS};
 use second::value::{read_entries, Value};
 use std::process::exit;
 use tally::Tally;
+
+const MET: [&str; 11] = [
+    "a fresh channel",
+    "one slot free",
+    "the first slot in use",
+    "the stream open",
+    "other streams open",
+    "one piece",
+    "pieces of one byte",
+    "5, and the rest offered again",
+    "no data",
+    "empty data",
+    "data in several records",
+];
 
 /// The bytes that are written, if the request is accepted.
 fn sent(sending: &Sending) -> Option<Vec<u8>> {
@@ -211,7 +225,7 @@ fn trip(
 }
 
 fn run(seed: u64, count: u64, damaged: bool) {
-    let mut tally = Tally::default();
+    let mut tally = Tally::of(&MET);
     let (mut accepted, mut total) = (0, 0);
     for index in 0..count {
         let sending = generate::sending(seed, index);

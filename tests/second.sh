@@ -10,8 +10,7 @@ rust_program tests/sessions.rs "$out/sessions" "$out"
 rust_program tests/second_replay.rs "$out/second_replay" "$out"
 rust_program tests/programs.rs "$out/programs" "$out"
 
-# Wrong senders, built while the rest goes on. They differ in one file, so the
-# same folder is compiled again for each.
+# Wrong senders, and wrong boards, built while the rest goes on.
 declare -A wrong_senders=(
     [size_of_4097]='s/1\.\.=PAYLOAD as u64/1..=4097/'
     [even_stream]='s/ || request\.stream % 2 == 0//'
@@ -32,21 +31,49 @@ declare -A wrong_senders=(
     [begin_on_each]='s/self\.begin && place == 0/self.begin/'
     [end_on_first]='s/self\.end && place == last/self.end \&\& place == 0/'
 )
-build_wrong_senders() {
-    local name folder=$out/wrong/sender
-    mkdir -p "$folder"
-    cp tests/second/src/*.rs "$folder"
-    for name in "${!wrong_senders[@]}"; do
-        change "${wrong_senders[$name]}" tests/second/src/sender.rs "$folder/sender.rs"
-        rustc --edition 2021 -A warnings -C incremental="$folder/incremental" --crate-type rlib \
-            --crate-name second --out-dir "$folder" "$folder/lib.rs"
-        rustc --edition 2021 -o "$folder/$name" --extern second="$folder/libsecond.rlib" tests/second_replay.rs
-    done
-}
-build_wrong_senders &
-senders=$!
-children+=("$senders")
-wrongs=$((wrongs + ${#wrong_senders[@]}))
+declare -A wrong_boards=(
+    [unknown_after_unfit]='/^    (40, /{h;d;}; /^    (41, /G'
+    [outside_before_unfit]='/^    (41, /{h;d;}; /^    (42, /G'
+    [long_before_outside]='/^    (42, /{h;d;}; /^    (43, /G'
+    [double_key_is_extra]='s/map_err(command::Refusal::number)/map_err(|refusal| if refusal.number() == 26 { 41 } else { refusal.number() })/'
+    [name_by_its_beginning]='s/\*name == self\.name/self.name.starts_with(name)/'
+    [args_wanted]='s/command\.args\.unwrap_or_default()/command.args.ok_or(41_u32)?/'
+    [extra_passes]='s/ && self\.arguments\.len() == taken\.len()//'
+    [missing_passes]='s/is_some_and(fits)/is_none_or(fits)/; s/len() == taken\.len()/len() <= taken.len()/'
+    [null_is_a_switch]='s/Value::True | Value::False/& | Value::Null/'
+    [null_is_a_text]='s/matches!(value, Value::Bytes(_))/matches!(value, Value::Bytes(_) | Value::Null)/'
+    [large_is_no_integer]='s/Value::Unsigned(_) | Value::Negative(_)/Value::Unsigned(0..=0x7fff_ffff_ffff_ffff) | Value::Negative(0..=0x7fff_ffff_ffff_ffff)/'
+    [negative_is_no_integer]='s/Value::Unsigned(_) | Value::Negative(_)/Value::Unsigned(_)/'
+    [coil_16_is_0]='s/if \*number < COILS as u64 => Some(\*number as usize)/if *number <= COILS as u64 => Some(*number as usize % COILS)/'
+    [coil_of_the_low_byte]='s/if \*number < COILS as u64 => Some(\*number as usize)/if *number % 256 < 16 => Some(*number as usize % 256)/'
+    [minus_one_is_0]='s/^ *Value::Unsigned(number) if/Value::Negative(0) => Some(0), &/'
+    [fifteen_coils]='s/\*number < COILS as u64/*number < 15/'
+    [text_of_16_is_long]='s/text\.len() > LABEL/text.len() >= LABEL/'
+    [old_label_kept]='s/self\.label = text\.to_vec();/let old = self.places(); &/; s/self\.unused = .*/self.unused = old[text.len()..].to_vec();/'
+    [off_clears_labels]='s/|coil| coil\.on = false/|coil| { coil.on = false; coil.rename(b""); }/'
+    [off_of_fifteen]='s/self\.coils\.iter_mut()/self.coils[..15].iter_mut()/'
+    [on_and_off_swapped]='s/== Some(&Value::True)/== Some(\&Value::False)/'
+    [set_clears_label]='s/None => self\.coils\[coil\]\.on = asked\.on(),/None => { self.coils[coil].on = asked.on(); self.coils[coil].rename(b""); }/'
+    [label_switches_off]='s/Some(text) => self\.coils\[coil\]\.rename(text),/Some(text) => { self.coils[coil].on = false; self.coils[coil].rename(text); }/'
+    [refused_set_switches]='s/return \*number;/if let Some(coil) = asked.coil() { self.coils[coil].on = asked.on(); } &/'
+    [refused_text_is_cut]='s/return \*number;/if *number == 43 { self.coils[asked.coil().unwrap_or(0)].rename(\&asked.text().unwrap_or_default()[..LABEL]); } &/'
+)
+# Wrong readings of a board's bytes.
+declare -A wrong_layouts=(
+    [length_before_switch]='s/\[u8::from(coil\.on), coil\.label\.len() as u8\]/[coil.label.len() as u8, u8::from(coil.on)]/; s/head\[1\]/head[9]/; s/head\[0\]/head[1]/; s/head\[9\]/head[0]/'
+    [switch_of_two]='s/^            1 => true,/            1.. => true,/'
+    [length_of_17]='s/head\[1\]\.into()/head[1].min(16).into()/'
+    [unused_is_0]='s/let on = match/if unused.iter().any(|byte| *byte != 0) { return None; } &/'
+)
+
+(
+    make_wrong_lines wrong_senders sender.rs
+    make_wrong_lines wrong_boards board.rs
+    make_wrong_lines wrong_layouts board.rs
+) &
+wrong_copies=$!
+children+=("$wrong_copies")
+wrongs=$((wrongs + ${#wrong_senders[@]} + ${#wrong_boards[@]} + ${#wrong_layouts[@]}))
 
 "$out/sessions" traces
 "$out/sessions" check 1 "$sessions"
@@ -91,6 +118,8 @@ wrong_reader double_first command.rs 's/let command = shape/if double { return E
 wrong_reader outer_double command.rs 's/if double || /if /'
 wrong_reader args_double command.rs 's/ || has_double_key(command\.arguments())//'
 wrong_reader negative command.rs 's/-1 - n/-n/'
+wrong_reader refused_is_counted command.rs 's/read(command)\.map_or(0, |command| command\.arguments/read(command).map_or(1, |command| command.arguments/'
+wrong_reader missing_args_count command.rs 's/|command| command\.arguments()\.len() as u64/|command| command.args.map_or(1, |args| args.len() as u64)/'
 wrong_reader range command.rs 's/i64::try_from(n)\.map_err(|_| Refusal::OutOfRange)?/n as i64/'
 # Wrong readings of a state's bytes.
 wrong_bytes() {
@@ -109,5 +138,5 @@ wrong_notation=$copy
 wrong_copy quotes capture.rs "s/'\\\\'' | //"
 rust_program tests/programs.rs "$copy/programs" "$copy"
 wrong_quotes=$copy
-wait "$senders"
+wait "$wrong_copies"
 children=()

@@ -7,6 +7,8 @@
 //! it counts comes up in less than one of 500 requests, or a number in less than
 //! one of 50.
 
+#[path = "counts.rs"]
+mod counts;
 #[path = "sends/coverage.rs"]
 mod coverage;
 #[path = "sends/reading.rs"]

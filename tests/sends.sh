@@ -17,7 +17,7 @@ echo "tests: $sends requests sent, $answered answers of replay, each as the seco
 # A wrong sender is found out by the first of them.
 head -n 400 "$answers/lines" >"$answers/first"
 for name in "${!wrong_senders[@]}"; do
-    must_fail '^replay differs' compare_lines "$answers/first" "$out/wrong/sender/$name"
+    must_fail '^replay differs' compare_lines "$answers/first" "$out/wrong/wrong_senders/$name/second_replay"
 done
 
 # What the archive wrote is received again.

@@ -1,11 +1,11 @@
 //! How often the requests meet each thing that is to be met.
 
+use crate::counts::Counts;
 use generate::{Sending, FAULTS};
 use second::command;
 use second::frame::{claimed, Frame, COMMAND, DATA, HEADER};
 use second::sender::Request;
 use second::value::{read_whole, Value};
-use std::collections::BTreeMap;
 
 const NUMBERS: [u8; 6] = [0, 50, 51, 52, 53, 54];
 
@@ -71,9 +71,7 @@ const MET: [&str; 57] = [
 ];
 
 pub struct Coverage {
-    /// In the order of printing.
-    counts: Vec<(String, u64)>,
-    places: BTreeMap<String, usize>,
+    counts: Counts,
 }
 
 /// The levels of containers in a value.
@@ -112,33 +110,27 @@ impl Coverage {
         let met = MET.into_iter().map(String::from);
         let names: Vec<String> = numbers.chain(faults).chain(met).collect();
         Coverage {
-            counts: names.iter().map(|name| (name.clone(), 0)).collect(),
-            places: names.into_iter().zip(0..).collect(),
+            counts: Counts::of(names),
         }
     }
 
     fn add_if(&mut self, met: bool, name: &str) {
         if met {
-            let place = self.places.get(name);
-            self.counts[*place.expect("a name of the table")].1 += 1;
+            self.counts.add(name);
         }
     }
 
     pub fn print(&self) {
-        for (name, count) in &self.counts {
-            println!("{count:>8}  {name}");
-        }
+        self.counts.print();
     }
 
     /// A number that was answered to less than one of 50 requests, or another
     /// thing that came up in less than one of 500.
     pub fn rare(&self, requests: u64) -> Option<&str> {
-        let mut counts = self.counts.iter().enumerate();
-        let rare = counts.find(|(place, (_, count))| {
-            let least = if *place < NUMBERS.len() { 50 } else { 500 };
-            count * least < requests
-        });
-        rare.map(|(_, (name, _))| &name[..])
+        self.counts.rare(|place| {
+            let share = if place < NUMBERS.len() { 50 } else { 500 };
+            requests.div_ceil(share)
+        })
     }
 
     /// A request, what it was answered, and the frames that were written.

@@ -1,5 +1,6 @@
 //! Lines of `replay`, damaged.
 
+use crate::boards::board_step;
 use crate::random::Random;
 use crate::sends::sending;
 use crate::sessions::session;
@@ -7,8 +8,9 @@ use crate::sessions::session;
 /// The longest line that is read has this many characters.
 const LONGEST: usize = 300_000;
 
-/// The lines of a session and of a few requests to be sent, of which every
-/// third or so is damaged, and between them lines of any bytes.
+/// The lines of a session, of a few requests to be sent and of a few commands for
+/// a board, of which every third or so is damaged, and between them lines of any
+/// bytes.
 pub fn garbled(seed: u64, index: u64) -> Vec<u8> {
     let start = Random::new(seed ^ 0x6a5b).next() ^ Random::new(!index).next();
     let random = &mut Random::new(start);
@@ -16,7 +18,9 @@ pub fn garbled(seed: u64, index: u64) -> Vec<u8> {
     let sends = (3 * index..3 * index + 3).map(|index| sending(seed, index).line());
     let short = sends.filter(|line| line.len() < 10_000);
     let looked = short.flat_map(|line| [line, "tail".to_string()]);
-    for line in session(seed, index).into_iter().chain(looked) {
+    let steps = (3 * index..3 * index + 3).flat_map(|index| board_step(seed, index).lines());
+    let boards = steps.flat_map(|line| [line.replace("board ", "count "), line]);
+    for line in session(seed, index).into_iter().chain(looked).chain(boards) {
         if line.starts_with("set ") && random.percent(20) {
             text.extend(too_wide(&line, random).into_bytes());
             text.push(b'\n');
@@ -36,7 +40,7 @@ pub fn garbled(seed: u64, index: u64) -> Vec<u8> {
         text.extend(long(random));
         text.push(b'\n');
     }
-    text.extend(b"state\nworksum\n");
+    text.extend(b"state\nworksum\nboard\n");
     text
 }
 
@@ -101,7 +105,7 @@ fn noise(random: &mut Random) -> Vec<u8> {
     if random.percent(50) {
         return random.bytes(count);
     }
-    let signs = b"0123456789abcdef fresh set feed poke send none state -:,#";
+    let signs = b"0123456789abcdef fresh set feed poke send none state board count -:,#";
     (0..count).map(|_| random.pick(signs)).collect()
 }
 
@@ -109,6 +113,7 @@ fn noise(random: &mut Random) -> Vec<u8> {
 fn long(random: &mut Random) -> Vec<u8> {
     let word = random.pick::<&[u8]>(&[
         b"check ",
+        b"board ",
         b"feed 5000 ",
         b"poke 0 ",
         b"send 9 61 0 - 1 1 0 0 9 ",

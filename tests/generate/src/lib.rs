@@ -1,8 +1,10 @@
 //! Makes commands to compare two readers on: good ones, ones with a known
 //! fault, and damaged ones; sessions of a channel, as lines of `replay`, and
-//! the same lines damaged; captures of the line; and requests to be sent. The
-//! same seed and index give the same ones on every machine.
+//! the same lines damaged; captures of the line; requests to be sent; and
+//! commands for a board. The same seed and index give the same ones on every
+//! machine.
 
+mod boards;
 mod captures;
 mod client;
 mod commands;
@@ -17,6 +19,7 @@ mod sends;
 mod sessions;
 mod starts;
 
+pub use boards::{board_command, board_step, BoardStep};
 pub use captures::capture;
 pub use commands::case;
 pub use garbled::garbled;
