@@ -256,6 +256,128 @@ static void lookups(void)
     IS(value, 0);
 }
 
+#define ARGUMENTS(name, count) "\xa2\x44" "name" name "\x44" "args" count
+#define COIL "\x44" "coil"
+#define ON "\x42" "on"
+#define TEXT "\x44" "text"
+#define SET "\x43" "set"
+#define LABEL "\x45" "label"
+#define OFF "\xa1\x44" "name" "\x43" "off"
+
+static void counts(void)
+{
+    IS(hgrpc_argument_count(BYTES(ARGUMENTS(SET, "\xa2") COIL "\x03" ON "\xf5")), 2);
+    IS(hgrpc_argument_count(BYTES(COMMAND)), 0);
+    IS(hgrpc_argument_count(BYTES(OFF)), 0);
+    IS(hgrpc_argument_count(BYTES("")), 0);
+    IS(hgrpc_argument_count(BYTES(ARGUMENTS(SET, "\xa2") ON "\xf5" ON "\xf5")), 0);
+}
+
+/* The board's coil is on or off, and has this label. */
+static void is_coil(int line, const hgrpc_board *board, size_t number, bool on, const char *label)
+{
+    hgrpc_coil coil;
+    is(line, hgrpc_coils_look(board, number, &coil), 0);
+    is(line, coil.on, on);
+    is(line, (long long)coil.size, (long long)strlen(label));
+    is(line, memcmp(coil.label, label, strlen(label)), 0);
+}
+#define COIL_IS(number, on, label) is_coil(__LINE__, &board, number, on, label)
+
+/* Switches, labels and off, and what each leaves of the rest. */
+static void coils(void)
+{
+    static hgrpc_board board;
+    static const uint8_t nothing[HGRPC_BOARD] = {0};
+    static const uint8_t short_label[18] = "\1\5north";
+    hgrpc_coil coil;
+    memset(&board, 0xff, sizeof board);
+    hgrpc_coils_first(&board);
+    IS(memcmp(board.bytes, nothing, sizeof nothing), 0);
+    COIL_IS(0, false, "");
+    IS(hgrpc_coils_apply(&board, BYTES(ARGUMENTS(SET, "\xa2") COIL "\x0f" ON "\xf5")), 0);
+    IS(hgrpc_coils_apply(&board, BYTES(ARGUMENTS(SET, "\xa2") ON "\xf5" COIL "\x18\0")), 0);
+    IS(hgrpc_coils_apply(&board, BYTES(ARGUMENTS(LABEL, "\xa2") COIL "\x0f" TEXT "\x50" "sixteen bytes on")), 0);
+    COIL_IS(15, true, "sixteen bytes on");
+    COIL_IS(0, true, "");
+    IS(hgrpc_coils_apply(&board, BYTES(ARGUMENTS(LABEL, "\xa2") COIL "\x0f" TEXT "\x58\5" "north")), 0);
+    COIL_IS(15, true, "north");
+    IS(memcmp(board.bytes + 15 * 18, short_label, sizeof short_label), 0);
+    IS(hgrpc_coils_apply(&board, BYTES(ARGUMENTS(SET, "\xa2") COIL "\0" ON "\xf4")), 0);
+    COIL_IS(0, false, "");
+    IS(hgrpc_coils_apply(&board, BYTES(OFF)), 0);
+    COIL_IS(15, false, "north");
+    IS(hgrpc_coils_look(&board, HGRPC_COILS, &coil), 42);
+    IS(coil.on, false);
+    IS(coil.size, 0);
+}
+
+/* Each command has a reason for its number and for those above it; the board stays. */
+static void refused_commands(void)
+{
+    static hgrpc_board board, before;
+    static const struct {
+        uint32_t number;
+        const char *bytes;
+        size_t length;
+    } refused[] = {
+#define REFUSED_COMMAND(number, text) {number, text, sizeof(text) - 1}
+        REFUSED_COMMAND(24, ""),
+        REFUSED_COMMAND(24, ARGUMENTS("\x41x", "\xa1") COIL "\x10" "\0"),
+        REFUSED_COMMAND(25, "\xa1\x44" "args\xa1" COIL "\x10"),
+        REFUSED_COMMAND(26, ARGUMENTS("\x41x", "\xa2") COIL "\x10" COIL "\x10"),
+        REFUSED_COMMAND(40, ARGUMENTS("\x41x", "\xa1") COIL "\x10"),
+        REFUSED_COMMAND(41, ARGUMENTS(SET, "\xa1") COIL "\x10"),
+        REFUSED_COMMAND(41, ARGUMENTS(SET, "\xa2") COIL "\x10" ON "\xf6"),
+        REFUSED_COMMAND(41, ARGUMENTS(SET, "\xa3") COIL "\x10" ON "\xf5" TEXT "\x40"),
+        REFUSED_COMMAND(41, ARGUMENTS("\x43" "off", "\xa1") COIL "\x10"),
+        REFUSED_COMMAND(42, ARGUMENTS(SET, "\xa2") COIL "\x10" ON "\xf5"),
+        REFUSED_COMMAND(42, ARGUMENTS(SET, "\xa2") COIL "\x20" ON "\xf5"),
+        REFUSED_COMMAND(42, ARGUMENTS(SET, "\xa2") COIL "\x3b\xff\xff\xff\xff\xff\xff\xff\xff" ON "\xf5"),
+        REFUSED_COMMAND(42, ARGUMENTS(LABEL, "\xa2") COIL "\x10" TEXT "\x51" "seventeen bytes, "),
+        REFUSED_COMMAND(43, ARGUMENTS(LABEL, "\xa2") COIL "\x0f" TEXT "\x51" "seventeen bytes, "),
+    };
+    size_t i;
+    hgrpc_coils_first(&board);
+    IS(hgrpc_coils_apply(&board, BYTES(ARGUMENTS(LABEL, "\xa2") COIL "\x0f" TEXT "\x45" "north")), 0);
+    before = board;
+    for (i = 0; i < sizeof refused / sizeof *refused; i++) {
+        IS(hgrpc_coils_apply(&board, (const uint8_t *)refused[i].bytes, refused[i].length), refused[i].number);
+        IS(memcmp(&board, &before, sizeof board), 0);
+    }
+}
+
+/* Bytes that are no board: 3 before all others, and nothing is changed. */
+static void no_board(void)
+{
+    static uint8_t bytes[HGRPC_BOARD + 1], before[HGRPC_BOARD + 1];
+    static const size_t places[] = {0, 15 * 18, 1, 15 * 18 + 1};
+    size_t i, at, size;
+    bool on;
+    memset(before, 1, sizeof before);
+    for (i = 0; i < 6; i++) {
+        size_t length = i == 4 ? HGRPC_BOARD - 1 : i == 5 ? HGRPC_BOARD + 1 : HGRPC_BOARD;
+        memcpy(bytes, before, sizeof bytes);
+        if (i < 4)
+            bytes[places[i]] = i < 2 ? 2 : 17;
+        at = size = 9;
+        on = true;
+        IS(hgrpc_board_apply(bytes, length, BYTES("")), 3);
+        IS(hgrpc_board_apply(bytes, length, BYTES(OFF)), 3);
+        IS(hgrpc_board_switch(bytes, length, HGRPC_COILS, &on), 3);
+        IS(on, false);
+        IS(hgrpc_board_label(bytes, length, HGRPC_COILS, &at, &size), 3);
+        IS(at + size, 0);
+        IS(hgrpc_board_first(bytes, length), i < 4 ? 0 : 3);
+        IS(memcmp(bytes, before, sizeof bytes) == 0, i >= 4);
+    }
+    IS(hgrpc_board_switch(before, HGRPC_BOARD, 15, &on), 0);
+    IS(on, true);
+    IS(hgrpc_board_label(before, HGRPC_BOARD, 15, &at, &size), 0);
+    IS(at, 15 * 18 + 2);
+    IS(size, 1);
+}
+
 /* What was asked for is in `b.out`, whose other bytes are all 0xa5. */
 static void is_sent(int line, uint32_t number, size_t written, const char *wanted, size_t length)
 {
@@ -403,6 +525,10 @@ int main(void)
     accepted();
     cut_records();
     lookups();
+    counts();
+    coils();
+    refused_commands();
+    no_board();
     sent();
     refused_requests();
     most_output();

@@ -4,7 +4,8 @@
 #[path = "../bindings/hgrpc.rs"]
 mod hgrpc;
 
-use hgrpc::{records, send, Fed, Kind, Record, Request, Sent, State, OUTPUT, STATE, WORK};
+use hgrpc::{records, send, Board, Fed, Kind, Record, Request, Sent, State};
+use hgrpc::{BOARD, COILS, OUTPUT, STATE, WORK};
 
 const COMMAND: &[u8] = b"\xa2\x44name\x43set\x44args\xa0";
 const WITH_ARGUMENTS: &[u8] =
@@ -107,7 +108,10 @@ fn lookups() {
         assert_eq!(hgrpc::name(bytes), Err(number));
         assert_eq!(hgrpc::argument(bytes, b"a"), Err(number));
         assert_eq!(hgrpc::integer(bytes, b"a"), Err(number));
+        assert_eq!(hgrpc::argument_count(bytes), 0);
     }
+    assert_eq!(hgrpc::argument_count(COMMAND), 0);
+    assert_eq!(hgrpc::argument_count(WITH_ARGUMENTS), 3);
     assert_eq!(hgrpc::name(WITH_ARGUMENTS), Ok(&b"set"[..]));
     assert_eq!(hgrpc::argument(WITH_ARGUMENTS, b"b"), Ok(&b"\x41x"[..]));
     assert_eq!(hgrpc::argument(WITH_ARGUMENTS, b""), Err(6));
@@ -115,6 +119,59 @@ fn lookups() {
     for (key, number) in [(b"d", 6), (b"b", 7), (b"c", 8)] {
         assert_eq!(hgrpc::integer(WITH_ARGUMENTS, key), Err(number));
     }
+}
+
+/// A command with two arguments.
+fn two(name: &[u8], first: &[u8], second: &[u8]) -> Vec<u8> {
+    [b"\xa2\x44name", name, b"\x44args\xa2", first, second].concat()
+}
+
+/// Switches and labels, what each leaves of the rest, and that a refused command
+/// leaves all.
+fn coils() {
+    let mut board = Board::first();
+    assert_eq!(board.bytes(), [0; BOARD]);
+    assert_eq!(
+        board.apply(&two(b"\x43set", b"\x42on\xf5", b"\x44coil\x03")),
+        0
+    );
+    let label = two(b"\x45label", b"\x44coil\x0f", b"\x44text\x45north");
+    assert_eq!(board.apply(&label), 0);
+    assert_eq!(board.switch(3), Ok(true));
+    assert_eq!(board.label(3), Ok(&b""[..]));
+    assert_eq!(board.switch(15), Ok(false));
+    assert_eq!(board.label(15), Ok(&b"north"[..]));
+    assert_eq!(board.switch(COILS), Err(42));
+    assert_eq!(board.label(usize::MAX), Err(42));
+    let before = board.clone();
+    let long = b"\x44text\x51seventeen bytes, ";
+    for (command, number) in [
+        (vec![], 24),
+        (b"\xa1\x44args\xa0".to_vec(), 25),
+        (two(b"\x43set", b"\x42on\xf5", b"\x42on\xf5"), 26),
+        (two(b"\x41x", b"\x44coil\x10", b"\x42on\xf5"), 40),
+        (two(b"\x43set", b"\x44coil\x10", b"\x42on\xf6"), 41),
+        (two(b"\x45label", b"\x44coil\x10", long), 42),
+        (two(b"\x45label", b"\x44coil\x0f", long), 43),
+    ] {
+        assert_eq!(board.apply(&command), number);
+        assert_eq!(board, before);
+    }
+    assert_eq!(board.apply(b"\xa1\x44name\x43off"), 0);
+    assert_eq!(board.switch(3), Ok(false));
+    assert_eq!(board.label(15), Ok(&b"north"[..]));
+}
+
+/// Bytes that are no board.
+fn no_board() {
+    let mut bytes = [2; BOARD];
+    assert_eq!(hgrpc::apply_bytes(&mut bytes, b""), 3);
+    assert_eq!(hgrpc::switch_bytes(&bytes, COILS), Err(3));
+    assert_eq!(hgrpc::label_bytes(&bytes, COILS), Err(3));
+    assert_eq!(hgrpc::first_board_bytes(&mut bytes[1..]), 3);
+    assert_eq!(bytes, [2; BOARD]);
+    assert_eq!(hgrpc::first_board_bytes(&mut bytes), 0);
+    assert_eq!(bytes, [0; BOARD]);
 }
 
 /// A request without arguments or data.
@@ -233,6 +290,8 @@ fn main() {
     refused_calls();
     cut_records();
     lookups();
+    coils();
+    no_board();
     sends();
     refused_requests();
     most();

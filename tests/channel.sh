@@ -7,13 +7,13 @@ sanitizers=(-g -fsanitize=address,undefined -fno-sanitize-recover=all)
 
 # Guard pages, and that they would be noticed.
 archive_program tests/guard.rs "$out/guard" "$out"
-"$out/guard" run 5 2000 20000 5000
+"$out/guard" run 5 2000 20000 5000 5000
 "$out/guard" over
-must_fail 'never came up' "$out/guard" run 5 20 20 20
+must_fail 'never came up' "$out/guard" run 5 20 20 20 20
 copy=${wrong_receivers[0]}
 build_lines "$copy"
 archive_program tests/guard.rs "$copy/guard" "$copy"
-must_fail '^guard: difference' "$copy/guard" run 5 2000 0 0
+must_fail '^guard: difference' "$copy/guard" run 5 2000 0 0 0
 
 # Any bytes as a state.
 archive_program tests/states.rs "$out/states" "$out"
@@ -83,7 +83,8 @@ done < <(sed -n 's/^\*\*E2: .* with the output unchanged: \(50 .*\)\. This call,
 
 # The archive has these calls and no others, and needs no more than this.
 calls=$(nm -g --defined-only "$archive" | awk '$2 == "T" { print $3 }' | sort | tr '\n' ' ')
-wanted="hgrpc_argument hgrpc_check hgrpc_feed hgrpc_finish hgrpc_fresh hgrpc_integer hgrpc_name hgrpc_send "
+wanted="hgrpc_argument hgrpc_argument_count hgrpc_board_apply hgrpc_board_first hgrpc_board_label hgrpc_board_switch \
+hgrpc_check hgrpc_feed hgrpc_finish hgrpc_fresh hgrpc_integer hgrpc_name hgrpc_send "
 needs=$(nm -u "$archive" | awk '$1 == "U" { print $2 }' | sort | tr '\n' ' ')
 [ "$calls" = "$wanted" ] || { echo "the archive has the calls $calls"; exit 1; }
 [ "$needs" = "memcpy memset " ] || { echo "the archive needs $needs"; exit 1; }

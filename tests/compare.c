@@ -34,6 +34,7 @@ struct part {
 
 struct answers {
     uint32_t check;
+    uint64_t count;
     struct part name, argument;
     uint32_t integer_number;
     int64_t integer;
@@ -42,15 +43,16 @@ struct answers {
 /* The calls of one implementation. */
 struct side {
     uint32_t (*check)(const uint8_t *, size_t);
+    uint64_t (*count)(const uint8_t *, size_t);
     uint32_t (*name)(const uint8_t *, size_t, size_t *, size_t *);
     uint32_t (*argument)(const uint8_t *, size_t, const uint8_t *, size_t, size_t *, size_t *);
     uint32_t (*integer)(const uint8_t *, size_t, const uint8_t *, size_t, int64_t *);
 };
 
 static const struct side archive_calls = {
-    hgrpc_check, hgrpc_name, hgrpc_argument, hgrpc_integer};
+    hgrpc_check, hgrpc_argument_count, hgrpc_name, hgrpc_argument, hgrpc_integer};
 static const struct side second_calls = {
-    second_check, second_name, second_argument, second_integer};
+    second_check, second_argument_count, second_name, second_argument, second_integer};
 
 static struct answers ask(const struct side *side, struct slice command, struct slice key)
 {
@@ -59,6 +61,7 @@ static struct answers ask(const struct side *side, struct slice command, struct 
     struct answers a;
     memset(&a, 0x55, sizeof a);
     a.check = side->check(c, length);
+    a.count = side->count(c, length);
     a.name.number = side->name(c, length, &a.name.at, &a.name.size);
     a.argument.number = side->argument(c, length, k, key.length, &a.argument.at, &a.argument.size);
     a.integer_number = side->integer(c, length, k, key.length, &a.integer);
@@ -72,16 +75,17 @@ static int equal_parts(struct part one, struct part other)
 
 static int equal(struct answers one, struct answers other)
 {
-    return one.check == other.check && equal_parts(one.name, other.name)
+    return one.check == other.check && one.count == other.count
+        && equal_parts(one.name, other.name)
         && equal_parts(one.argument, other.argument)
         && one.integer_number == other.integer_number && one.integer == other.integer;
 }
 
 static void print_answers(const char *side, struct answers a)
 {
-    printf("%s check %" PRIu32 ", name %" PRIu32 " %zu %zu, argument %" PRIu32
+    printf("%s check %" PRIu32 ", count %" PRIu64 ", name %" PRIu32 " %zu %zu, argument %" PRIu32
            " %zu %zu, integer %" PRIu32 " %" PRId64 "\n",
-           side, a.check, a.name.number, a.name.at, a.name.size, a.argument.number,
+           side, a.check, a.count, a.name.number, a.name.at, a.name.size, a.argument.number,
            a.argument.at, a.argument.size, a.integer_number, a.integer);
 }
 
@@ -207,7 +211,7 @@ int main(int argc, char **argv)
     };
     struct fenced for_command = make_fenced(1 << 18);
     struct fenced for_key = make_fenced(1 << 14);
-    uint64_t lacking = 0;
+    uint64_t lacking = 0, several = 0;
 
     printf("compare (C): seed %" PRIu64 "\n", seed);
     for (uint64_t index = 0; index < commands; index++) {
@@ -216,14 +220,16 @@ int main(int argc, char **argv)
         add(&counts[1], answers.name.number);
         add(&counts[2], answers.argument.number);
         add(&counts[3], answers.integer_number);
+        several += answers.count > 1;
     }
     for (int i = 0; i < CALLS; i++)
         print_count(&counts[i]);
     printf("accepted without args    %" PRIu64 "\n", lacking);
+    printf("several arguments        %" PRIu64 "\n", several);
     for (int i = 0; i < CALLS; i++)
         fail_if_rare(&counts[i], commands);
-    if (lacking * 50 < commands) {
-        printf("compare (C): accepted without args in less than 2%%\n");
+    if (lacking * 50 < commands || several * 10 < commands) {
+        printf("compare (C): accepted without args in less than 2%%, or several arguments in less than 10%%\n");
         return 1;
     }
     printf("compare (C): %" PRIu64 " commands, no difference\n", commands);

@@ -9,6 +9,7 @@ use std::process::exit;
 #[derive(Debug, PartialEq)]
 struct Answers {
     check: u32,
+    count: u64,
     name: Result<Vec<u8>, u32>,
     argument: Result<Vec<u8>, u32>,
     integer: Result<i64, u32>,
@@ -31,6 +32,7 @@ fn second_answers(Case { command, key }: &Case) -> Answers {
     let argument = command::argument(command, key).to_vec();
     Answers {
         check,
+        count: command::argument_count(command),
         name: numbered(check, command::name(command).to_vec()),
         argument: numbered(command::argument_number(command, key), argument),
         integer: numbered(
@@ -46,6 +48,7 @@ fn archive_answers(case: &Case) -> Answers {
     let key: Box<[u8]> = case.key.as_slice().into();
     let answers = Answers {
         check: hgrpc::check(&command),
+        count: hgrpc::argument_count(&command),
         name: hgrpc::name(&command).map(<[u8]>::to_vec),
         argument: hgrpc::argument(&command, &key).map(<[u8]>::to_vec),
         integer: hgrpc::integer(&command, &key),
@@ -91,6 +94,7 @@ fn traces() {
     };
     let accepted = |item: &[u8], integer| Answers {
         check: 0,
+        count: 1,
         name: Ok(b"set".to_vec()),
         argument: Ok(item.to_vec()),
         integer,
@@ -112,6 +116,7 @@ fn traces() {
 fn refused(number: u32) -> Answers {
     Answers {
         check: number,
+        count: 0,
         name: Err(number),
         argument: Err(number),
         integer: Err(number),
@@ -132,6 +137,7 @@ fn without_args() {
     let name = b"\x44name\x43off";
     let accepted = || Answers {
         check: 0,
+        count: 0,
         name: Ok(b"off".to_vec()),
         argument: Err(6),
         integer: Err(6),
@@ -196,9 +202,9 @@ fn argument(place: usize, default: u64) -> u64 {
 }
 
 /// The calls on the commands of a seed, and how many of these were accepted
-/// without `args`.
-fn generated(seed: u64, commands: u64, counts: &mut [Count]) -> u64 {
-    let mut lacking = 0;
+/// without `args`, and had several arguments.
+fn generated(seed: u64, commands: u64, counts: &mut [Count]) -> (u64, u64) {
+    let (mut lacking, mut several) = (0, 0);
     for index in 0..commands {
         let case = generate::case(seed, index);
         let answers = compare(&case, &format!("seed {seed}, index {index}"));
@@ -212,8 +218,9 @@ fn generated(seed: u64, commands: u64, counts: &mut [Count]) -> u64 {
             count.add(number);
         }
         lacking += u64::from(command::lacks_args(&case.command));
+        several += u64::from(answers.count > 1);
     }
-    lacking
+    (lacking, several)
 }
 
 fn main() {
@@ -231,11 +238,12 @@ fn main() {
         Count::new("hgrpc_argument", 5),
         Count::new("hgrpc_integer", 7),
     ];
-    let lacking = generated(seed, commands, &mut counts);
+    let (lacking, several) = generated(seed, commands, &mut counts);
     for count in &counts {
         count.print();
     }
     println!("accepted without args    {lacking}");
+    println!("several arguments        {several}");
     for count in &counts {
         if let Some(number) = count.rare(commands) {
             let call = count.call;
@@ -243,8 +251,8 @@ fn main() {
             exit(1);
         }
     }
-    if lacking * 50 < commands {
-        println!("compare (Rust): accepted without args in less than 2%");
+    if lacking * 50 < commands || several * 10 < commands {
+        println!("compare (Rust): accepted without args in less than 2%, or several arguments in less than 10%");
         exit(1);
     }
     println!("compare (Rust): {commands} commands, no difference");

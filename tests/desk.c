@@ -13,6 +13,7 @@
 struct answers {
     uint32_t check, argument, integer;
     int64_t value;
+    uint64_t count;
 };
 
 static struct answers archive_answers(const uint8_t *command, size_t length,
@@ -23,6 +24,7 @@ static struct answers archive_answers(const uint8_t *command, size_t length,
     answers.argument = command_argument_number(command, length, key, key_length);
     answers.integer = command_integer_number(command, length, key, key_length);
     answers.value = command_integer(command, length, key, key_length);
+    answers.count = command_argument_count(command, length);
     return answers;
 }
 
@@ -34,6 +36,7 @@ static struct answers second_answers(const uint8_t *command, size_t length,
     answers.check = second_check(command, length);
     answers.argument = second_argument(command, length, key, key_length, &at, &size);
     answers.integer = second_integer(command, length, key, key_length, &answers.value);
+    answers.count = second_argument_count(command, length);
     return answers;
 }
 
@@ -49,7 +52,7 @@ static int alike(uint64_t seed, uint64_t index, int met[32])
     generated_free(generated);
     met[one.integer % 32] = 1;
     return one.check == other.check && one.argument == other.argument
-        && one.integer == other.integer && one.value == other.value;
+        && one.integer == other.integer && one.value == other.value && one.count == other.count;
 }
 
 int main(int argc, char **argv)

@@ -12,6 +12,7 @@ type Lookup<T> = unsafe extern "C" fn(*const u8, usize, *const u8, usize) -> T;
 
 extern "C" {
     fn command_check(command: *const u8, length: usize) -> u32;
+    fn command_argument_count(command: *const u8, length: usize) -> u64;
     fn command_argument_number(c: *const u8, n: usize, key: *const u8, size: usize) -> u32;
     fn command_integer_number(c: *const u8, n: usize, key: *const u8, size: usize) -> u32;
     fn command_integer(c: *const u8, n: usize, key: *const u8, size: usize) -> i64;
@@ -22,26 +23,36 @@ fn check(command: &[u8]) -> u32 {
     unsafe { command_check(command.as_ptr(), command.len()) }
 }
 
+fn count(command: &[u8]) -> u64 {
+    // The pointer comes with its own length.
+    unsafe { command_argument_count(command.as_ptr(), command.len()) }
+}
+
 fn look_up<T>(call: Lookup<T>, Case { command, key }: &Case) -> T {
     // Each pointer comes with its own length.
     unsafe { call(command.as_ptr(), command.len(), key.as_ptr(), key.len()) }
 }
 
-fn archive_answers(case: &Case) -> (u32, u32, u32, i64) {
+/// The check's number, the lookups', the integer, and the number of arguments.
+type Answers = (u32, u32, u32, i64, u64);
+
+fn archive_answers(case: &Case) -> Answers {
     (
         check(&case.command),
         look_up(command_argument_number, case),
         look_up(command_integer_number, case),
         look_up(command_integer, case),
+        count(&case.command),
     )
 }
 
-fn second_answers(Case { command, key }: &Case) -> (u32, u32, u32, i64) {
+fn second_answers(Case { command, key }: &Case) -> Answers {
     (
         command::check(command),
         command::argument_number(command, key),
         command::integer_number(command, key),
         command::integer(command, key),
+        command::argument_count(command),
     )
 }
 

@@ -2,15 +2,16 @@
 //! touched: right before it, and right behind it. A read or write outside the
 //! lent bytes ends the program by a signal.
 //!
-//!     guard run SEED SESSIONS COMMANDS SENDS   answers are held to the second implementation
-//!     guard over                               one byte more of each buffer than there is ends the program
-//!     guard lend BUFFER                        lends one byte more of BUFFER, for `over`
+//!     guard run SEED SESSIONS COMMANDS SENDS BOARDS   answers are held to the second implementation
+//!     guard over                                      one byte more of each buffer than there is ends the program
+//!     guard lend BUFFER                               lends one byte more of BUFFER, for `over`
 
 #[path = "guard/met.rs"]
 mod met;
 #[path = "guard/over.rs"]
 mod over;
 
+use hgrpc::{apply_bytes, first_board_bytes, label_bytes, switch_bytes, BOARD};
 use hgrpc::{feed_bytes, finish_bytes, fresh_bytes, raw, OUTPUT, STATE, WORK};
 use met::Met;
 use replay_lines::{Driver, Edge, Room};
@@ -41,6 +42,9 @@ impl Sides {
             if driver.work() != self.second.receiver().work() {
                 fail(&format!("another work area with the page {edge:?}"));
             }
+            if driver.board() != self.second.board().write() {
+                fail(&format!("another board with the page {edge:?}"));
+            }
         }
         if let Some(answer) = answer {
             self.answers += 1;
@@ -49,7 +53,7 @@ impl Sides {
     }
 }
 
-fn run(seed: u64, sessions: u64, commands: u64, sends: u64) {
+fn run([seed, sessions, commands, sends, boards]: [u64; 5]) {
     let mut sides = Sides {
         drivers: EDGES.map(Driver::new),
         second: Replay::default(),
@@ -72,6 +76,7 @@ fn run(seed: u64, sessions: u64, commands: u64, sends: u64) {
             format!("name {command}"),
             format!("arg {command} {key}"),
             format!("int {command} {key}"),
+            format!("count {command}"),
         ] {
             sides.line(&line);
         }
@@ -82,13 +87,19 @@ fn run(seed: u64, sessions: u64, commands: u64, sends: u64) {
         sides.line(&generate::sending(seed, index).line());
         sides.line("tail");
     }
+    for index in 0..boards {
+        for line in generate::board_step(seed, index).lines() {
+            sides.line(&line);
+        }
+    }
     EDGES.into_iter().for_each(other_states);
+    EDGES.into_iter().for_each(other_boards);
     EDGES.into_iter().for_each(unread_data);
     if let Some(missing) = sides.met.missing() {
         fail(&format!("{missing} never came up"));
     }
     let answers = sides.answers;
-    println!("guard: {sessions} sessions, {commands} commands, {sends} sends, {answers} answers at each edge, no byte outside touched");
+    println!("guard: {sessions} sessions, {commands} commands, {sends} sends, {boards} commands for a board, {answers} answers at each edge, no byte outside touched");
 }
 
 /// States of other lengths than a state has: 3, or 2 if the work area is too
@@ -111,6 +122,20 @@ fn other_states(edge: Edge) {
         assert_eq!(finish_bytes(state.put(&bytes), 1), 3);
         assert_eq!(fresh_bytes(state.put(&bytes)), 3);
         assert_eq!(state.lent(length), bytes);
+    }
+}
+
+/// Boards of other lengths than a board has: 3, and nothing is changed.
+fn other_boards(edge: Edge) {
+    let [mut board, mut command] = [2 * BOARD, 10].map(|most| Room::new(most, edge));
+    for length in [0, 1, 2, 18, BOARD - 1, BOARD + 1, 2 * BOARD] {
+        let bytes = vec![1; length];
+        let off = command.put(b"\xa1\x44name\x43off");
+        assert_eq!(apply_bytes(board.put(&bytes), off), 3);
+        assert_eq!(first_board_bytes(board.lend(length)), 3);
+        assert_eq!(switch_bytes(board.lent(length), 0), Err(3));
+        assert_eq!(label_bytes(board.lent(length), 0), Err(3));
+        assert_eq!(board.lent(length), bytes);
     }
 }
 
@@ -167,14 +192,11 @@ fn main() {
     let words: Vec<&str> = arguments.iter().map(String::as_str).collect();
     let number = |word: &str| word.parse().expect("a number");
     match words[..] {
-        ["run", seed, sessions, commands, sends] => run(
-            number(seed),
-            number(sessions),
-            number(commands),
-            number(sends),
-        ),
+        ["run", seed, sessions, commands, sends, boards] => {
+            run([seed, sessions, commands, sends, boards].map(number))
+        }
         ["over"] => over::each(),
         ["lend", buffer] => over::lend(buffer),
-        _ => fail("run SEED SESSIONS COMMANDS SENDS, over or lend BUFFER"),
+        _ => fail("run SEED SESSIONS COMMANDS SENDS BOARDS, over or lend BUFFER"),
     }
 }

@@ -4,8 +4,8 @@
 use std::collections::BTreeSet;
 
 /// The answers that begin with a number.
-const NUMBERED: [&str; 7] = [
-    "fed", "finished", "checked", "named", "argument", "integer", "sent",
+const NUMBERED: [&str; 8] = [
+    "fed", "finished", "checked", "named", "argument", "integer", "sent", "counted",
 ];
 
 #[derive(Default)]
@@ -34,6 +34,10 @@ impl Met {
                 self.see("output", length.parse().expect("a number"));
                 self.see("input", spelled(input));
             }
+            ("board", [_, command]) if *command != "fresh" => {
+                self.see("board", told[1].parse().expect("a number"));
+                self.see("applied", spelled(command));
+            }
             ("argument", [_, command, key]) => {
                 self.see("command", spelled(command));
                 self.see("key", spelled(key));
@@ -61,7 +65,7 @@ impl Met {
     pub fn missing(&self) -> Option<String> {
         let fed = [0, 1, 2, 3, 5].into_iter().chain(11..=29).collect();
         let finished = [0, 3, 4].into_iter().chain(11..=29).collect();
-        let wanted: [(&str, Vec<usize>); 17] = [
+        let wanted: [(&str, Vec<usize>); 20] = [
             ("fed", fed),
             ("finished", finished),
             ("checked", vec![0, 24, 25, 26]),
@@ -79,6 +83,9 @@ impl Met {
             ("data", vec![0, 1]),
             ("frames", vec![0, 1, 7, 8]),
             ("filled", vec![1]),
+            ("counted", vec![0, 1, 2]),
+            ("board", vec![0, 24, 25, 26, 40, 41, 42, 43]),
+            ("applied", vec![10, 26]),
         ];
         let mut wanted = wanted
             .into_iter()

@@ -1,7 +1,7 @@
 //! Calls that need the last byte of each buffer. Where that byte is not there,
 //! since the length lent is one too many, the page behind is touched.
 
-use hgrpc::{raw, OUTPUT, STATE, WORK};
+use hgrpc::{raw, BOARD, OUTPUT, STATE, WORK};
 use replay_lines::{Edge, Room};
 use second::bytes;
 use second::replay::{state_text, to_hex};
@@ -69,6 +69,7 @@ pub fn lines() -> Vec<String> {
     let [name, pairs, data] = [NAME, PAIRS, &DATA].map(to_hex);
     let send = format!("send {TOTAL} {name} 1 {pairs} 1 1 1 1 4096 {data}");
     lines.extend([send, "tail".to_string()]);
+    lines.extend([format!("board {}", to_hex(LABEL)), "board".to_string()]);
     lines
 }
 
@@ -184,19 +185,47 @@ fn sends(over: &str) {
     assert_eq!((number, written), (0, TOTAL));
 }
 
+/// A label that fills the places of the last coil, which end the board; the last
+/// byte of the command is the label's.
+const LABEL: &[u8] = b"\xa2\x44name\x45label\x44args\xa2\x44coil\x0f\x44text\x50sixteen bytes on";
+
+fn boards(over: &str) {
+    let mut board = Lent::new("board", &[0; BOARD], over);
+    let mut command = Lent::new("applied", LABEL, over);
+    let mut first = Lent::new("first", &[0; BOARD], over);
+    // As above.
+    let numbers = unsafe {
+        [
+            raw::hgrpc_board_apply(
+                board.pointer(),
+                board.length,
+                command.pointer(),
+                command.length,
+            ),
+            raw::hgrpc_board_first(first.pointer(), first.length),
+        ]
+    };
+    assert_eq!(numbers, [0, 0]);
+    assert_eq!(
+        board.room.lent(BOARD)[BOARD - 16..],
+        LABEL[LABEL.len() - 16..]
+    );
+}
+
 /// Makes the calls with a byte too many of one buffer.
 pub fn lend(over: &str) {
     feeds(over);
     lookups(over);
+    boards(over);
     sends(over);
 }
 
 /// Makes them with each buffer in turn, in a program of its own, which a touched
 /// page must end; and with none, which must come to its end.
 pub fn each() {
-    const BUFFERS: [&str; 11] = [
+    const BUFFERS: [&str; 14] = [
         "none", "state", "work", "input", "output", "command", "key", "name", "pairs", "data",
-        "frames",
+        "frames", "board", "applied", "first",
     ];
     for buffer in BUFFERS {
         let program = std::env::current_exe().expect("a program knows its place");
