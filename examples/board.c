@@ -1,10 +1,12 @@
-/* The main loop of a board: standard input stands for the serial line. From
- * the repository's folder, with the archive made by `rt staticlib hgrpc`:
+/* The main loop of a board with sixteen coils: standard input stands for the
+ * serial line, and what the coils do is printed. From the repository's folder,
+ * with the archive made by `rt staticlib hgrpc`:
  *
  *     cc -O2 -Iinclude examples/board.c target/staticlib/libhgrpc.a -o target/board
- *     target/board <samples/two-laptops.capture */
+ *     target/board <samples/coils.capture */
 
 #include <stdio.h>
+#include <string.h>
 
 #include "hgrpc.h"
 
@@ -13,10 +15,65 @@ static hgrpc_state state;
 static uint8_t work[HGRPC_WORK];
 static uint8_t out[HGRPC_OUTPUT];
 
-/* What the board does with a record: here it prints the name of the command,
- * or the length of the data. */
+/* The coils, with their switches and labels. */
+static hgrpc_board coils;
+
+/* The words of a refusal by the board. */
+static const char *meaning(uint32_t number)
+{
+    switch (number) {
+    case 40: return "unknown command";
+    case 41: return "argument missing, extra or of the wrong type";
+    case 42: return "coil not 0 to 15";
+    case 43: return "text over 16 bytes";
+    default: return "a number that a board does not have";
+    }
+}
+
+/* Text in quotes, or in hex if it has bytes that are not plain characters. */
+static void print_text(const uint8_t *text, size_t size)
+{
+    size_t i;
+    for (i = 0; i < size && text[i] >= ' ' && text[i] <= '~'; i++)
+        if (text[i] == '\'' || text[i] == '\\')
+            break;
+    if (i == size) {
+        printf("'%.*s'", (int)size, (const char *)text);
+        return;
+    }
+    printf("h'");
+    for (i = 0; i < size; i++)
+        printf("%02x", text[i]);
+    printf("'");
+}
+
+/* Prints each coil that is not as it was. A real board sets its outputs here. */
+static void print_changes(const hgrpc_board *before)
+{
+    size_t number;
+    for (number = 0; number < HGRPC_COILS; number++) {
+        hgrpc_coil old, now;
+        hgrpc_coils_look(before, number, &old);
+        hgrpc_coils_look(&coils, number, &now);
+        if (old.on == now.on && old.size == now.size && memcmp(old.label, now.label, now.size) == 0)
+            continue;
+        printf("  coil %zu: %s, ", number, now.on ? "on" : "off");
+        if (now.size == 0) {
+            printf("no label\n");
+            continue;
+        }
+        printf("label ");
+        print_text(now.label, now.size);
+        printf("\n");
+    }
+}
+
+/* The board does a command as soon as its record comes, also where data follows:
+ * none of its commands has a use for data. A refused one leaves every coil. */
 static void act(const hgrpc_record *record)
 {
+    hgrpc_board before = coils;
+    uint32_t number;
     size_t at, size;
     if (record->kind == HGRPC_KIND_DATA) {
         printf("data %u: %zu bytes%s\n", record->request, record->length,
@@ -26,8 +83,12 @@ static void act(const hgrpc_record *record)
     /* Feed has checked the command, so its name is there. */
     hgrpc_name(record->bytes, record->length, &at, &size);
     printf("command %u: ", record->request);
-    fwrite(record->bytes + at, 1, size, stdout);
+    print_text(record->bytes + at, size);
     printf("%s\n", record->bit ? ", data follows" : "");
+    number = hgrpc_coils_apply(&coils, record->bytes, record->length);
+    if (number != 0)
+        printf("  refused %u: %s\n", number, meaning(number));
+    print_changes(&before);
 }
 
 /* The records at the front of the output. A request that runs is finished when
@@ -65,6 +126,7 @@ int main(void)
     uint8_t piece[9];
     unsigned turn;
     hgrpc_channel_fresh(&state);
+    hgrpc_coils_first(&coils);
     for (turn = 0; !feof(stdin) && !ferror(stdin); turn++) {
         size_t length = fread(piece, 1, sizes[turn % 3], stdin);
         uint32_t number = take_piece(piece, length);

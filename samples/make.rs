@@ -126,6 +126,31 @@ fn two_laptops() -> Vec<u8> {
     .concat()
 }
 
+fn set_coil(coil: u64, on: Vec<u8>) -> Vec<u8> {
+    command("set", &[("coil", unsigned(coil)), ("on", on)])
+}
+
+fn label_coil(coil: u64, text: &str) -> Vec<u8> {
+    command("label", &[("coil", unsigned(coil)), ("text", string(text))])
+}
+
+// Two laptops switch and label coils, one of them a coil that is not there; then all coils go off, and one on again.
+fn coils() -> Vec<u8> {
+    let shed = label_coil(15, "engine shed");
+    let off = map(&[(string("name"), string("off"))]);
+    [
+        frame(1, 1, BEGIN, NEW, &set_coil(3, yes())),
+        frame(11, 3, BEGIN, NEW_MORE, &shed[..20]),
+        frame(3, 1, NONE, NEW, &label_coil(3, "north points")),
+        frame(11, 3, NONE, REST, &shed[20..]),
+        frame(13, 3, NONE, NEW, &set_coil(15, yes())),
+        frame(5, 1, NONE, NEW, &set_coil(16, yes())),
+        frame(15, 3, END, NEW, &off),
+        frame(7, 1, END, NEW, &set_coil(3, yes())),
+    ]
+    .concat()
+}
+
 // One command in four frames: a cut lies inside a key, one between a head and its content, and one inside a number.
 fn cut_command() -> Vec<u8> {
     let magnets = array(&[unsigned(1), unsigned(2), unsigned(1000)]);
@@ -192,6 +217,7 @@ fn main() -> io::Result<()> {
     let folder = env::args().nth(1).expect("the folder to write into");
     let folder = Path::new(&folder);
     fs::write(folder.join("two-laptops.capture"), two_laptops())?;
+    fs::write(folder.join("coils.capture"), coils())?;
     fs::write(folder.join("cut-command.capture"), cut_command())?;
     fs::write(folder.join("damaged.capture"), damaged())?;
     io::stdout().write_all(&test())

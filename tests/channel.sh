@@ -69,17 +69,25 @@ while IFS='|' read -r _ number words _; do
 done < <(grep -E '^\| [0-9]+ \| ' docs/RULES.md)
 [ "$meanings" -eq 27 ] || { echo "the rules have $meanings numbers"; exit 1; }
 
-# So do those of the sending call, which stand in one sentence of the rules; send says them too.
-meanings=0
-while read -r number words; do
-    if [[ $joined != *" $number $words "* ]]; then
-        echo "the header does not say of $number: $words"
-        exit 1
-    fi
-    grep -qF "$number => \"$words\"," examples/send.rs || { echo "send does not say of $number: $words"; exit 1; }
-    meanings=$((meanings + 1))
-done < <(sed -n 's/^\*\*E2: .* with the output unchanged: \(50 .*\)\. This call, .*/\1/p' docs/RULES.md | sed 's/, \(5[1-4] \)/\n\1/g')
-[ "$meanings" -eq 5 ] || { echo "the rules have $meanings numbers of the sending call"; exit 1; }
+# So do those of the board and of the sending call, which each stand in one sentence of the rules; an example says them too.
+# $1 is how many there are, $2 the example, $3 what stands there before the words and $4 behind them, $5 the sentence.
+example_says() {
+    local wanted=$1 example=$2 before=$3 behind=$4 number words meanings=0
+    while read -r number words; do
+        if [[ $joined != *" $number $words "* ]]; then
+            echo "the header does not say of $number: $words"
+            return 1
+        fi
+        grep -qF "${before/N/$number}$words$behind" "$example" || { echo "$example does not say of $number: $words"; return 1; }
+        meanings=$((meanings + 1))
+    done < <(sed 's/, \([45][0-9] \)/\n\1/g' <<<"$5")
+    [ "$meanings" -eq "$wanted" ] || { echo "the rules have $meanings numbers that $example says"; return 1; }
+}
+example_says 4 examples/board.c 'case N: return "' '";' \
+    "$(sed -n 's/^\*\*E3: .* Refusals in order: \(40 .*\); 24 to 26 .*/\1/p' docs/RULES.md)"
+example_says 5 examples/send.rs 'N => "' '",' \
+    "$(sed -n 's/^\*\*E2: .* with the output unchanged: \(50 .*\)\. This call, .*/\1/p' docs/RULES.md)"
+must_fail 'does not say of 40' example_says 1 examples/board.c 'case N: return "' '";' '40 unknown'
 
 # The archive has these calls and no others, and needs no more than this.
 calls=$(nm -g --defined-only "$archive" | awk '$2 == "T" { print $3 }' | sort | tr '\n' ' ')
@@ -89,12 +97,18 @@ needs=$(nm -u "$archive" | awk '$1 == "U" { print $2 }' | sort | tr '\n' ' ')
 [ "$calls" = "$wanted" ] || { echo "the archive has the calls $calls"; exit 1; }
 [ "$needs" = "memcpy memset " ] || { echo "the archive needs $needs"; exit 1; }
 
-# The board, built and run by the README's own lines, and with the sanitizers.
+# The board, built and run by the README's own lines, and with the sanitizers. The samples' page shows the same.
 section=$(sed -n "/^## A board's main loop in C$/,/^## Send/p" README.md)
 shown=$(block "$section" 2)
 printed=$(bash -euc "$(block "$section" 1)")
 [ -n "$shown" ] && [ "$printed" = "$shown" ] || {
     printf 'the README shows something else than its lines print:\n%s\n' "$printed"
+    exit 1
+}
+page=$(sed -n '/^## What a board does$/,$p' samples/README.md)
+printed=$(target/board <samples/coils.capture)
+[ -n "$printed" ] && [ "$(block "$page" 1)" = "$printed" ] || {
+    printf 'the samples page shows something else than the board prints:\n%s\n' "$printed"
     exit 1
 }
 gcc -std=c99 "${strict[@]}" -Wconversion "${sanitizers[@]}" -Iinclude -o "$out/board" \
@@ -106,3 +120,6 @@ done
 change 's/fed.number == 5/0/' examples/board.c "$out/wrong/board.c"
 gcc -std=c99 -Iinclude -o "$out/wrong/board" "$out/wrong/board.c" "$archive"
 must_fail 'and not$' "$out/programs" boards "$out/wrong/board" 1 300
+change 's/hgrpc_coils_apply(&coils/hgrpc_coils_apply(\&before/' examples/board.c "$out/wrong/board.c"
+gcc -std=c99 -Iinclude -o "$out/wrong/board" "$out/wrong/board.c" "$archive"
+must_fail 'and not$' "$out/programs" board "$out/wrong/board" samples/coils.capture

@@ -55,6 +55,8 @@ wide=$(grep -acE '^set .*\b65536\b' "$out/lines")
 [ "$wide" -ge 20 ] || { echo "only $wide lines set a number that does not fit"; exit 1; }
 wide=$(grep -acE '^send .* (65536|18446744073709551616) ' "$out/lines")
 [ "$wide" -ge 20 ] || { echo "only $wide lines send a number that does not fit"; exit 1; }
+boarded=$(grep -acE '^board (0|4[0-3])$' "$out/replay.answers")
+[ "$boarded" -ge 200 ] || { echo "only $boarded of the damaged lines are commands for the board"; exit 1; }
 echo "tests: $answered answers to damaged lines, $bad of them bad, each as the second program's"
 
 # A closed output ends a program on input without end: by the signal (status
@@ -187,6 +189,42 @@ for number in 50 51 52 53 54; do
         exit 1
     }
 done
+# What send writes, the board does.
+gcc -std=c99 -O2 -Iinclude -o "$out/coils" examples/board.c target/staticlib/libhgrpc.a
+does() {
+    local wanted=$1 text
+    shift
+    text=$("$send" "$@" | "$out/coils") || { echo "send and the board ended with $?: $*"; return 1; }
+    [ "$text" = "command 1: $wanted" ] || {
+        printf 'send and the board wrote\n%s\nand not\n%s\nof: %s\n' "$text" "$wanted" "$*"
+        return 1
+    }
+}
+does "'set'
+  coil 3: on, no label" set coil=3 on=true
+does "'label'
+  coil 15: off, label 'engine shed'" --size 5 label text="engine shed" coil=15
+does "'label'
+  coil 0: off, label h'00ff'" label coil=0 "text=h'00ff'"
+does "'off'" off
+does "'toggle'
+  refused 40: unknown command" toggle coil=3
+does "'set'
+  refused 41: argument missing, extra or of the wrong type" set coil=99 on=null
+does "'set'
+  refused 42: coil not 0 to 15" set coil=-18446744073709551616 on=true
+does "'label'
+  refused 43: text over 16 bytes" label coil=3 text="seventeen bytes.."
+printed=$({ "$send" set coil=3 on=true && "$send" label coil=3 text=north && "$send" off; } | "$out/coils")
+[ "$printed" = "command 1: 'set'
+  coil 3: on, no label
+command 1: 'label'
+  coil 3: on, label 'north'
+command 1: 'off'
+  coil 3: off, label 'north'" ] || { printf 'three commands become\n%s\n' "$printed"; exit 1; }
+must_fail 'and not$' does "'set'
+  coil 3: on, no label" set coil=3 on=false
+
 help=$("$send" --help)
 [[ $help == 'send [OPTION].. NAME [KEY=VALUE]..'* ]] || { echo "send --help writes '$help'"; exit 1; }
 echo "tests: send and receive together, and what send says of words that are wrong"

@@ -2,24 +2,58 @@
 //! same bytes.
 
 use crate::fail;
-use second::capture::{walk, End, Record};
+use second::board::Board;
+use second::capture::{byte_string, walk, End, Record};
 use second::command;
+use std::collections::BTreeMap;
 use std::fs;
 use std::io::{Result, Write};
 use std::process::{Command, Stdio};
 
+/// The beginnings of what is printed of a command, and how often each must come up.
+const KINDS: [&str; 5] = [
+    "  refused 40:",
+    "  refused 41:",
+    "  refused 42:",
+    "  refused 43:",
+    "  coil ",
+];
+const LEAST: usize = 20;
+
+/// The meaning of a number, from the table of the header.
+fn words(number: u32) -> &'static str {
+    let header = include_str!("../../include/hgrpc.h");
+    let mut lines = header.lines();
+    let row = lines.find_map(|line| line.strip_prefix(&format!(" *   {number}  ")));
+    row.expect("a row of the table")
+}
+
 /// What the board prints of a record.
-fn printed(record: &Record) -> Vec<u8> {
+fn printed(record: &Record, board: &mut Board) -> String {
     let (request, bit) = (record.request, record.bit == 1);
-    if record.is_command {
-        let mut text = format!("command {request}: ").into_bytes();
-        text.extend(command::name(record.content));
-        text.extend(if bit { &b", data follows\n"[..] } else { b"\n" });
-        text
-    } else {
+    if !record.is_command {
         let last = if bit { ", the last" } else { "" };
-        format!("data {request}: {} bytes{last}\n", record.content.len()).into_bytes()
+        return format!("data {request}: {} bytes{last}\n", record.content.len());
     }
+    let name = byte_string(command::name(record.content));
+    let follows = if bit { ", data follows" } else { "" };
+    let mut text = format!("command {request}: {name}{follows}\n");
+    let before = board.clone();
+    let number = board.apply(record.content);
+    if number != 0 {
+        text += &format!("  refused {number}: {}\n", words(number));
+    }
+    for (number, (old, new)) in before.coils.iter().zip(&board.coils).enumerate() {
+        if (old.on, &old.label) != (new.on, &new.label) {
+            let switch = if new.on { "on" } else { "off" };
+            let label = match &new.label[..] {
+                [] => "no label".to_string(),
+                label => format!("label {}", byte_string(label)),
+            };
+            text += &format!("  coil {number}: {switch}, {label}\n");
+        }
+    }
+    text
 }
 
 /// Runs the board on a capture. It stops at a refusal, so that it may not read
@@ -36,22 +70,24 @@ fn run(program: &str, capture: &[u8]) -> Result<(Vec<u8>, Option<i32>)> {
     Ok((output.stdout, output.status.code()))
 }
 
-/// Whether the board refused the capture.
-fn compare(program: &str, capture: &[u8], name: &str) -> Result<bool> {
-    let mut wanted = Vec::new();
-    let end = walk(capture, |record| wanted.extend(printed(record)));
+/// What the board prints of a capture, which is what the second implementation
+/// has, and whether it refused the capture.
+fn compare(program: &str, capture: &[u8], name: &str) -> Result<(String, bool)> {
+    let mut wanted = String::new();
+    let mut board = Board::first();
+    let end = walk(capture, |record| wanted += &printed(record, &mut board));
     let refused = matches!(end, End::Refused { .. });
     if let End::Refused { number, .. } = end {
-        wanted.extend(format!("refused {number}: the channel is dead\n").into_bytes());
+        wanted += &format!("refused {number}: the channel is dead\n");
     }
     let (text, status) = run(program, capture)?;
-    if text != wanted || status != Some(refused.into()) {
-        let [text, wanted] = [text, wanted].map(|text| String::from_utf8_lossy(&text).into_owned());
+    if text != wanted.as_bytes() || status != Some(refused.into()) {
+        let text = String::from_utf8_lossy(&text);
         fail(&format!(
             "{name}: status {status:?}\n{text}and not\n{wanted}"
         ));
     }
-    Ok(refused)
+    Ok((wanted, refused))
 }
 
 pub fn samples(program: &str, files: &[&str]) -> Result<()> {
@@ -65,14 +101,25 @@ pub fn samples(program: &str, files: &[&str]) -> Result<()> {
 
 pub fn captures(program: &str, seed: u64, count: u64) -> Result<()> {
     let mut refused = 0;
+    let mut kinds: BTreeMap<&str, usize> = BTreeMap::new();
     for index in 0..count {
-        let capture = generate::capture(seed, index);
         let name = format!("seed {seed}, capture {index}");
-        refused += u64::from(compare(program, &capture, &name)?);
+        refused += u64::from(compare(program, &generate::capture(seed, index), &name)?.1);
+        let name = format!("seed {seed}, capture {index} for a board");
+        let (text, _) = compare(program, &generate::board_capture(seed, index), &name)?;
+        for kind in KINDS {
+            let lines = text.lines().filter(|line| line.starts_with(kind));
+            *kinds.entry(kind).or_default() += lines.count();
+        }
     }
     if refused < count / 4 || refused > count * 3 / 4 {
         fail(&format!("{refused} of {count} captures are refused"));
     }
-    println!("programs: the board on {count} captures, {refused} of them refused, each as the second implementation has it");
+    if let Some((kind, times)) = kinds.iter().find(|(_, times)| **times < LEAST) {
+        fail(&format!(
+            "\"{kind}\" came up {times} times, less than {LEAST}"
+        ));
+    }
+    println!("programs: the board on {count} captures, {refused} of them refused, and on {count} with its commands, each as the second implementation has it");
     Ok(())
 }

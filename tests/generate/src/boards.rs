@@ -32,18 +32,55 @@ pub fn board_step(seed: u64, index: u64) -> BoardStep {
 }
 
 /// A command for a board.
-pub fn board_command(random: &mut Random) -> Vec<u8> {
+fn board_command(random: &mut Random) -> Vec<u8> {
+    match random.percent(17) {
+        true => Draft::good(random).refused_by_check(random),
+        false => checked_command(random),
+    }
+}
+
+/// A command for a board that passes the check.
+fn checked_command(random: &mut Random) -> Vec<u8> {
     let mut draft = Draft::good(random);
-    match random.below(100) {
+    match random.below(83) {
         0..=35 => {}
         36..=45 => draft.outside(random),
         46..=51 => draft.lengthen(random),
         52..=60 => draft.unfit(random),
         61..=63 => draft.rename(random),
-        64..=82 => draft.several(random),
-        _ => return draft.refused_by_check(random),
+        _ => draft.several(random),
     }
     draft.written(random)
+}
+
+/// A capture of the line with commands for a board, some of them in two frames, some
+/// with data.
+pub fn board_capture(seed: u64, index: u64) -> Vec<u8> {
+    let start = Random::new(seed ^ 0xb0ac).next() ^ Random::new(!index).next();
+    let random = &mut Random::new(start);
+    let mut bytes = Vec::new();
+    let mut frame = |id: u16, stream_flags: u8, last: u8, payload: &[u8]| {
+        bytes.extend(&(payload.len() as u32).to_le_bytes()[..3]);
+        bytes.extend(id.to_le_bytes());
+        bytes.extend([1, stream_flags, last]);
+        bytes.extend(payload);
+    };
+    for number in 0..random.between(1, 12) {
+        let (id, begin) = (2 * number as u16 + 1, u8::from(number == 0));
+        let command = checked_command(random);
+        let data = if random.percent(20) { 0x08 } else { 0 };
+        if random.percent(30) {
+            let (first, rest) = command.split_at(random.below(command.len() + 1));
+            frame(id, begin, 0x15 | data, first);
+            frame(id, 0, 0x12 | data, rest);
+        } else {
+            frame(id, begin, 0x11 | data, &command);
+        }
+        if data != 0 {
+            frame(id, 0, 0x22, b"data");
+        }
+    }
+    bytes
 }
 
 /// Whether a key has this content.

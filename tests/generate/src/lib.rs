@@ -19,7 +19,7 @@ mod sends;
 mod sessions;
 mod starts;
 
-pub use boards::{board_command, board_step, BoardStep};
+pub use boards::{board_capture, board_step, BoardStep};
 pub use captures::capture;
 pub use commands::case;
 pub use garbled::garbled;

@@ -109,7 +109,7 @@ impl<'r> Record<'r> {
 
 /// Text in single quotes (RFC 8610, appendix G.2) where no character of it has
 /// to be escaped, hex elsewhere.
-fn byte_string(bytes: &[u8]) -> String {
+pub fn byte_string(bytes: &[u8]) -> String {
     let is_plain = |c: char| matches!(c, ' '..='~') && !matches!(c, '\'' | '\\');
     match std::str::from_utf8(bytes) {
         Ok(text) if text.chars().all(is_plain) => format!("'{text}'"),
