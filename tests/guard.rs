@@ -53,6 +53,25 @@ impl Sides {
     }
 }
 
+/// The calls on a command, as lines.
+fn lookups(seed: u64, index: u64) -> [String; 5] {
+    let case = generate::case(seed, index);
+    let (command, key) = (to_hex(&case.command), to_hex(&case.key));
+    [
+        format!("check {command}"),
+        format!("name {command}"),
+        format!("arg {command} {key}"),
+        format!("int {command} {key}"),
+        format!("count {command}"),
+    ]
+}
+
+/// A request, and a question about its output: past what was written it is as it
+/// was, and all of it where the request was refused.
+fn sent(seed: u64, index: u64) -> [String; 2] {
+    [generate::sending(seed, index).line(), "tail".to_string()]
+}
+
 fn run([seed, sessions, commands, sends, boards]: [u64; 5]) {
     let mut sides = Sides {
         drivers: EDGES.map(Driver::new),
@@ -60,38 +79,13 @@ fn run([seed, sessions, commands, sends, boards]: [u64; 5]) {
         met: Met::default(),
         answers: 0,
     };
-    for line in over::lines() {
-        sides.line(&line);
-    }
-    for index in 0..sessions {
-        for line in generate::session(seed, index) {
-            sides.line(&line);
-        }
-    }
-    for index in 0..commands {
-        let case = generate::case(seed, index);
-        let (command, key) = (to_hex(&case.command), to_hex(&case.key));
-        for line in [
-            format!("check {command}"),
-            format!("name {command}"),
-            format!("arg {command} {key}"),
-            format!("int {command} {key}"),
-            format!("count {command}"),
-        ] {
-            sides.line(&line);
-        }
-    }
-    // Each output is asked about: past what was written it is as it was, and
-    // all of it where the request was refused.
-    for index in 0..sends {
-        sides.line(&generate::sending(seed, index).line());
-        sides.line("tail");
-    }
-    for index in 0..boards {
-        for line in generate::board_step(seed, index).lines() {
-            sides.line(&line);
-        }
-    }
+    let lines = over::lines()
+        .into_iter()
+        .chain((0..sessions).flat_map(|index| generate::session(seed, index)))
+        .chain((0..commands).flat_map(|index| lookups(seed, index)))
+        .chain((0..sends).flat_map(|index| sent(seed, index)))
+        .chain((0..boards).flat_map(|index| generate::board_step(seed, index).lines()));
+    lines.for_each(|line| sides.line(&line));
     EDGES.into_iter().for_each(other_states);
     EDGES.into_iter().for_each(other_boards);
     EDGES.into_iter().for_each(unread_data);
