@@ -4,9 +4,9 @@
 //!
 //!     board_bytes SEED RANDOM
 //!
-//! A board that commands have made is tried with every change of a single byte;
-//! beside it are RANDOM boards, whose unused places have any bytes, many of them
-//! spoiled, and bytes of other lengths.
+//! A board that commands have made is tried with every change of a single byte, and
+//! with other lengths. Beside it are RANDOM boards, whose unused places have any
+//! bytes, many of them spoiled; each goes on for a few commands.
 
 #[path = "tally.rs"]
 mod tally;
@@ -33,6 +33,11 @@ const MET: [&str; 14] = [
     "a board with unused places that are not 0",
     "a coil past the last",
 ];
+
+/// How many commands there are to take in turn.
+const COMMANDS: u64 = 9_973;
+/// How many commands a random board is to do one after another.
+const HISTORY: usize = 4;
 
 /// The calls on boards, with commands in turn.
 struct Calls {
@@ -64,7 +69,7 @@ fn label(board: &[u8], coil: usize) -> (u32, usize, usize) {
 
 impl Calls {
     fn new(seed: u64) -> Calls {
-        let steps = (0..997).map(|index| generate::board_step(seed, index));
+        let steps = (0..COMMANDS).map(|index| generate::board_step(seed, index));
         Calls {
             commands: steps.map(|step| step.command).collect(),
             turn: 0,
@@ -74,7 +79,6 @@ impl Calls {
 
     /// All calls on these bytes.
     fn hold(&mut self, bytes: &[u8]) -> Result<(), String> {
-        self.turn += 1;
         let read = Board::read(bytes);
         self.apply(bytes, read.clone())?;
         for coil in [self.turn % COILS, COILS, 1 << 32, usize::MAX] {
@@ -89,7 +93,9 @@ impl Calls {
         must((number, left) == wanted, "another first board")
     }
 
-    fn apply(&mut self, bytes: &[u8], read: Option<Board>) -> Result<(), String> {
+    /// The bytes that the next command leaves.
+    fn apply(&mut self, bytes: &[u8], read: Option<Board>) -> Result<Vec<u8>, String> {
+        self.turn += 1;
         let command = &self.commands[self.turn % self.commands.len()];
         let mut left = bytes.to_vec();
         let number = apply_bytes(&mut left, command);
@@ -105,7 +111,7 @@ impl Calls {
         must(left == after, "apply leaves other bytes")?;
         let name = MET.iter().find(|name| **name == format!("apply {number}"));
         self.tally.add_if(true, name.ok_or("an unknown number")?);
-        Ok(())
+        Ok(left)
     }
 
     fn look(&mut self, bytes: &[u8], read: &Option<Board>, coil: usize) -> Result<(), String> {
@@ -124,6 +130,14 @@ impl Calls {
             told == (number, at, size),
             &format!("label {coil}: {told:?}"),
         )
+    }
+
+    /// A few commands on these bytes, each on what the one before it left.
+    fn history(&mut self, mut bytes: Vec<u8>) -> Result<(), String> {
+        for _ in 0..HISTORY {
+            bytes = self.apply(&bytes, Board::read(&bytes))?;
+        }
+        Ok(())
     }
 
     /// Every change of one byte, and every other length near it.
@@ -167,6 +181,7 @@ impl Calls {
         self.tally.add_if(kind == 0, "a switch byte above 1");
         self.tally.add_if(kind == 1, "a label length above 16");
         self.hold(&bytes)
+            .and_then(|()| self.history(bytes.clone()))
             .map_err(|reason| format!("{bytes:02x?}: {reason}"))
     }
 }
@@ -186,7 +201,7 @@ fn run(seed: u64, count: u64) -> Result<(), String> {
         return Err(format!("\"{rare}\" came up too seldom"));
     }
     let turns = calls.turn;
-    println!("board bytes: every change of a byte, {turns} boards, each call as the second implementation's");
+    println!("board bytes: every change of a byte, {count} random boards, {turns} commands, each call as the second implementation's");
     Ok(())
 }
 

@@ -38,6 +38,11 @@ change 's/IS(fed.number, 5)/IS(fed.number, 0)/' tests/calls.c "$out/wrong/calls.
 gcc -std=c99 -Iinclude -o "$out/wrong/calls" "$out/wrong/calls.c" "$archive"
 must_fail '^calls: line' "$out/wrong/calls"
 
+mkdir "$out/wrong/look"
+change 's/coil->label = board->bytes + at;/coil->label = board->bytes;/' include/hgrpc.h "$out/wrong/look/hgrpc.h"
+gcc -std=c99 -I"$out/wrong/look" -o "$out/wrong/calls" tests/calls.c "$archive"
+must_fail '^calls: line' "$out/wrong/calls"
+
 # The bindings, taken in as a module.
 rust -o "$out/calls_rust" -L native=target/staticlib -l static=hgrpc tests/calls.rs
 "$out/calls_rust"
@@ -47,6 +52,9 @@ change 's|\.\./bindings/|bindings/|' tests/calls.rs "$out/wrong/calls.rs"
 rust -o "$out/wrong/calls_rust" -L native=target/staticlib -l static=hgrpc "$out/wrong/calls.rs"
 must_fail 'assertion failed: record.runs()' "$out/wrong/calls_rust"
 change 's/request\.data\.is_some(),/true,/' bindings/hgrpc.rs "$out/wrong/bindings/hgrpc.rs"
+rust -o "$out/wrong/calls_rust" -L native=target/staticlib -l static=hgrpc "$out/wrong/calls.rs"
+must_fail 'assertion `left == right` failed' "$out/wrong/calls_rust"
+change 's/0 => Ok(on),/0 => Ok(!on),/' bindings/hgrpc.rs "$out/wrong/bindings/hgrpc.rs"
 rust -o "$out/wrong/calls_rust" -L native=target/staticlib -l static=hgrpc "$out/wrong/calls.rs"
 must_fail 'assertion `left == right` failed' "$out/wrong/calls_rust"
 
