@@ -293,7 +293,7 @@ static inline void hgrpc_coils_first(hgrpc_board *board)
 }
 
 /* The answers of hgrpc_board_apply: 0 and the command is done, or 24 to 26 or 40 to
- * 43 and nothing changed. 3 cannot be of a board that came from the first one. */
+ * 43 and nothing changed; never 3, where the board came from the first one. */
 static inline uint32_t hgrpc_coils_apply(hgrpc_board *board, const uint8_t *command, size_t length)
 {
     return hgrpc_board_apply(board->bytes, sizeof board->bytes, command, length);
