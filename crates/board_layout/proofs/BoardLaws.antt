@@ -13,11 +13,11 @@ use lib.Seq.{take-take}
 use Rattle.board.specs.declared.Coil.{Coil}
 use Rattle.board.specs.declared.Board.{Board}
 use Rattle.board.specs.Commands.{coilCount, longestLabel}
-use Rattle.board.specs.Board.{firstCoil, coilAt}
+use Rattle.board.specs.Board.{firstCoil, firstBoard, coilAt}
 use Rattle.fields.specs.Laws.{AllFit, Lawful}
-use Rattle.fields.proofs.FieldLaws.{Any, flag-lawful, flag-only, below-lawful, bytes-lawful, both-lawful, many-lawful, standing-lawful, and-left, and-right, value-length, value-some, value-none, decoded, back as value-back, only as value-only}
+use Rattle.fields.proofs.FieldLaws.{Any, flag-lawful, flag-only, below-lawful, bytes-lawful, both-lawful, many-lawful, standing-lawful, and-left, and-right, value-length, value-none, value-read, value-put, decoded, back as value-back, only as value-only}
 use Rattle.fields.proofs.Loops.{getAll-first, good-at}
-use Rattle.board_layout.specs.BoardBytes.{coil, board, onAt, lengthAt, labelAt, boardLength, encode, decode, isBoard, boardOf}
+use Rattle.board_layout.specs.BoardBytes.{coil, board, onAt, lengthAt, labelAt, boardLength, encode, decode, isBoard, boardFrom, boardInto}
 use Rattle.board_layout.specs.Laws.{CoilFits, BoardFits, Back, Only, CoilPlaced, Placed}
 use Rattle.board_layout.proofs.Places.{coil-good, coil-get}
 
@@ -60,9 +60,13 @@ pub board-length : (b : List ℕ) → isBoard b ≡ true → length b ≡ boardL
 unfolding isBoard
 board-length = value-length board
 
-pub board-some : (b : List ℕ) → isBoard b ≡ true → decode b ≡ some (boardOf b)
-unfolding isBoard boardOf decode
-board-some = value-some board
+pub board-read : (b : List ℕ) (x : Board) → isBoard b ≡ true → x ≡ boardFrom b → decode b ≡ some x
+unfolding isBoard boardFrom decode
+board-read = value-read board firstBoard
+
+pub board-put : (b b′ : List ℕ) (x : Board) → length b ≡ boardLength → b′ ≡ boardInto b x → b′ ≡ encode x
+unfolding boardInto encode
+board-put = value-put board
 
 pub board-none : (b : List ℕ) → isBoard b ≡ false → decode b ≡ none
 unfolding isBoard decode

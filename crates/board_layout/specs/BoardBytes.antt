@@ -10,7 +10,7 @@ use Rattle.board.specs.declared.Coil.{Coil}
 use Rattle.board.specs.declared.Board.{Board}
 use Rattle.board.specs.Commands.{coilCount, longestLabel}
 use Rattle.board.specs.Board.{firstBoard}
-use Rattle.fields.specs.Fields.{Field, flag, below, bytes, both, many, standing, isValue, decode as decodeBy}
+use Rattle.fields.specs.Fields.{Field, flag, below, bytes, both, many, standing, isValue, decode as decodeBy, valueFrom, valueInto}
 
 -- ---- the fields
 
@@ -63,7 +63,7 @@ decode b = decodeBy board b
 
 -- what the code answers for bytes of any length
 unfoldable pub boardFrom : List ℕ → Board
-boardFrom b = cond (eqb (length b) boardLength) (boardOf b) firstBoard
+boardFrom b = valueFrom board firstBoard b
 
 unfoldable pub boardInto : List ℕ → Board → List ℕ
-boardInto b x = cond (eqb (length b) boardLength) (encode x) b
+boardInto b x = valueInto board b x

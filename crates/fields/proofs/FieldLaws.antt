@@ -12,7 +12,7 @@ use lib.ListN.{length, take, drop, getD, length-append, length-drop}
 use lib.Dec.{eqb}
 use lib.Seq.{getD-drop, drop-at, take-at, take-add, take-all}
 use mir.Val.{boolByte}
-use Rattle.fields.specs.Fields.{Field, bytesOf, little, number, choice, flag, below, bytes, both, putAll, getAll, goodAll, many, standing, isValue, decode}
+use Rattle.fields.specs.Fields.{Field, bytesOf, little, number, choice, flag, below, bytes, both, putAll, getAll, goodAll, many, standing, isValue, decode, valueFrom, valueInto}
 use Rattle.fields.specs.Laws.{AreBytes, AllFit, Lawful, Back, Only}
 
 pub bytes-drop : (n : ℕ) (b : List ℕ) → AreBytes b → AreBytes (drop n b)
@@ -227,11 +227,22 @@ module _ {A : Type 0} {f : Field A} {F : A → Type 0} (p : Lawful f F) where
 pub value-length : {A : Type 0} (f : Field A) (b : List ℕ) → isValue f b ≡ true → length b ≡ f .width
 value-length f b h = eqb-true (length b) (f .width) (and-left _ (f .good b) h)
 
-pub value-some : {A : Type 0} (f : Field A) (b : List ℕ) → isValue f b ≡ true → decode f b ≡ some (f .get b)
+value-some : {A : Type 0} (f : Field A) (b : List ℕ) → isValue f b ≡ true → decode f b ≡ some (f .get b)
 value-some {A} f b h = ap {B = Option A} (λ (t : Bool). cond t (some (f .get b)) none) h
 
 pub value-none : {A : Type 0} (f : Field A) (b : List ℕ) → isValue f b ≡ false → decode f b ≡ none
 value-none {A} f b h = ap {B = Option A} (λ (t : Bool). cond t (some (f .get b)) none) h
+
+-- the value that code read from a value's bytes, and the bytes that it put
+pub value-read : {A : Type 0} (f : Field A) (d : A) (b : List ℕ) (x : A) → isValue f b ≡ true → x ≡ valueFrom f d b → decode f b ≡ some x
+value-read {A} f d b x h e =
+    let from : valueFrom f d b ≡ f .get b = rw (eq-eqb _ _ (value-length f b h)) in
+    value-some f b h ∙ ap {B = Option A} some (sym (e ∙ from))
+
+pub value-put : {A : Type 0} (f : Field A) (b b′ : List ℕ) (x : A) → length b ≡ f .width → b′ ≡ valueInto f b x → b′ ≡ f .put x
+value-put f b b′ x l e =
+    let into : valueInto f b x ≡ f .put x = rw (eq-eqb _ _ l) in
+    e ∙ into
 
 pub record Decoded {A : Type 0} (f : Field A) (b : List ℕ) (x : A) : Type 0 where
   pub good : isValue f b ≡ true

@@ -83,3 +83,10 @@ module _ {A : Type 0} (f : Field A) where
 
   abbrev pub decode : List ℕ → Option A
   decode b = cond (isValue b) (some (f .get b)) none
+
+  -- what code answers for bytes of any length: a value to fall back on where there are more or fewer of them, and then they stay as they are
+  abbrev pub valueFrom : A → List ℕ → A
+  valueFrom d b = cond (eqb (length b) (f .width)) (f .get b) d
+
+  abbrev pub valueInto : List ℕ → A → List ℕ
+  valueInto b x = cond (eqb (length b) (f .width)) (f .put x) b

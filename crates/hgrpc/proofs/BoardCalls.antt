@@ -3,7 +3,7 @@
 use Prim.Native.Nat.{ℕ, _<_, _≤_}
 use mathlib.Core.Bool.{true, false}
 use mathlib.Core.List.{List}
-use mathlib.Core.Path.{_≡_, ap, _∙_}
+use mathlib.Core.Path.{_≡_, refl, ap, _∙_}
 use lib.ListN.{length}
 use borrow.Author.Tests.{lt-ltb, le-ltb, eq-eqb, ne-eqb}
 use Rattle.board.specs.declared.Coil.{Coil}
@@ -11,19 +11,10 @@ use Rattle.board.specs.declared.Board.{Board}
 use Rattle.board.specs.declared.Applied.{Applied}
 use Rattle.board.specs.Commands.{coilCount}
 use Rattle.board.specs.Board.{firstBoard, coilAt, applied}
-use Rattle.board_layout.specs.BoardBytes.{boardLength, labelAt, encode, isBoard, boardOf, boardFrom, boardInto}
-use Rattle.board_layout.proofs.BoardLaws.{board-length, board-some, board-none}
+use Rattle.board_layout.specs.BoardBytes.{boardLength, labelAt, isBoard, boardFrom, boardInto}
+use Rattle.board_layout.proofs.BoardLaws.{board-length, board-none, board-read, board-put}
 use Rattle.hgrpc.specs.Calls.{kept, part, noPart}
 use Rattle.hgrpc.specs.Boards.{firstAnswer, appliedAnswer, applyAnswer, switch, switchAnswer, labelAnswer}
-
--- the board that is read and put where the bytes are a board's
-from-board : (b : List ℕ) → length b ≡ boardLength → boardFrom b ≡ boardOf b
-unfolding boardFrom
-from-board b h = rw (eq-eqb _ _ h)
-
-into-board : (b : List ℕ) (x : Board) → length b ≡ boardLength → boardInto b x ≡ encode x
-unfolding boardInto
-into-board b x h = rw (eq-eqb _ _ h)
 
 module _ (b : List ℕ) where
   pub first-other : (length b ≡ boardLength → ⊥) → kept 3 b ≡ firstAnswer b
@@ -32,7 +23,7 @@ module _ (b : List ℕ) where
 
   pub first-done : length b ≡ boardLength → (x : Board) (b′ : List ℕ) → x ≡ firstBoard → b′ ≡ boardInto b x → kept 0 b′ ≡ firstAnswer b
   unfolding firstAnswer
-  first-done h x b′ e f = rw (eq-eqb _ _ h, f, into-board b x h, e)
+  first-done h x b′ e f = rw (eq-eqb _ _ h, board-put b b′ x h f, e)
 
   pub apply-none : (s : List ℕ) → isBoard b ≡ false → kept 3 b ≡ applyAnswer b s
   unfolding applyAnswer
@@ -42,9 +33,8 @@ module _ (b : List ℕ) where
       → kept (a .number) b′ ≡ applyAnswer b s
   unfolding applyAnswer
   apply-done s e x a b′ f g h =
-      let l : length b ≡ boardLength = board-length b e in
-      rw (board-some b e)
-      (ap (kept (a .number)) (h ∙ into-board b (a .board) l) ∙ ap appliedAnswer (g ∙ ap (applied s) (f ∙ from-board b l)))
+      rw (board-read b x e f)
+      (ap (kept (a .number)) (board-put b b′ (a .board) (board-length b e) h) ∙ ap appliedAnswer g)
 
   module _ (i : ℕ) where
     pub switch-none : isBoard b ≡ false → switch 3 false ≡ switchAnswer b i
@@ -58,20 +48,17 @@ module _ (b : List ℕ) where
     module _ (e : isBoard b ≡ true) where
       pub switch-outside : coilCount ≤ i → switch 42 false ≡ switchAnswer b i
       unfolding switchAnswer
-      switch-outside h = rw (board-some b e, le-ltb i coilCount h)
+      switch-outside h = rw (board-read b (boardFrom b) e refl, le-ltb i coilCount h)
 
       pub label-outside : coilCount ≤ i → noPart 42 ≡ labelAnswer b i
       unfolding labelAnswer
-      label-outside h = rw (board-some b e, le-ltb i coilCount h)
+      label-outside h = rw (board-read b (boardFrom b) e refl, le-ltb i coilCount h)
 
       module _ (h : i < coilCount) (x : Board) (c : Coil) (f : x ≡ boardFrom b) (g : c ≡ coilAt x i) where
-        coil-is : c ≡ coilAt (boardOf b) i
-        coil-is = g ∙ ap (λ (y : Board). coilAt y i) (f ∙ from-board b (board-length b e))
-
         pub switch-done : switch 0 (c .on) ≡ switchAnswer b i
         unfolding switchAnswer
-        switch-done = rw (board-some b e, lt-ltb i coilCount h) (ap (λ (d : Coil). switch 0 (d .on)) coil-is)
+        switch-done = rw (board-read b x e f, lt-ltb i coilCount h) (ap (λ (d : Coil). switch 0 (d .on)) g)
 
         pub label-done : part 0 (labelAt i) (c .length) ≡ labelAnswer b i
         unfolding labelAnswer
-        label-done = rw (board-some b e, lt-ltb i coilCount h) (ap (λ (d : Coil). part 0 (labelAt i) (d .length)) coil-is)
+        label-done = rw (board-read b x e f, lt-ltb i coilCount h) (ap (λ (d : Coil). part 0 (labelAt i) (d .length)) g)

@@ -12,18 +12,9 @@ use Rattle.channel.specs.declared.Fed.{Fed}
 use Rattle.channel.specs.declared.Finished.{Finished}
 use Rattle.channel.specs.Receiver.{freshState}
 use Rattle.channel.specs.Channel.{feedOf, finishOf, fedWith, finished}
-use Rattle.layout.specs.State.{stateLength, encode, isState, stateOf, stateFrom, stateInto}
-use Rattle.layout.proofs.StateLaws.{state-length, state-some, state-none}
+use Rattle.layout.specs.State.{stateLength, encode, isState, stateFrom, stateInto}
+use Rattle.layout.proofs.StateLaws.{state-length, state-none, state-read, state-put}
 use Rattle.hgrpc.specs.Calls.{kept, answer, fedAnswer, freshAnswer, finishAnswer, feedAnswer}
-
--- the state that is read and put where the bytes are a state's
-from-state : (b : List ℕ) → length b ≡ stateLength → stateFrom b ≡ stateOf b
-unfolding stateFrom
-from-state b h = rw (eq-eqb _ _ h)
-
-into-state : (b : List ℕ) (s : Channel) → length b ≡ stateLength → stateInto b s ≡ encode s
-unfolding stateInto
-into-state b s h = rw (eq-eqb _ _ h)
 
 module _ (b : List ℕ) where
   pub fresh-other : (length b ≡ stateLength → ⊥) → kept 3 b ≡ freshAnswer b
@@ -32,7 +23,7 @@ module _ (b : List ℕ) where
 
   pub fresh-done : length b ≡ stateLength → (s : Channel) (b′ : List ℕ) → s ≡ freshState → b′ ≡ stateInto b s → kept 0 b′ ≡ freshAnswer b
   unfolding freshAnswer
-  fresh-done h s b′ e f = rw (eq-eqb _ _ h, f, into-state b s h, e)
+  fresh-done h s b′ e f = rw (eq-eqb _ _ h, state-put b b′ s h f, e)
 
   module _ (id : ℕ) where
     pub finish-none : isState b ≡ false → kept 3 b ≡ finishAnswer b id
@@ -43,10 +34,8 @@ module _ (b : List ℕ) where
         → kept (a .number) b′ ≡ finishAnswer b id
     unfolding finishAnswer
     finish-done e s a b′ f g h =
-        let l : length b ≡ stateLength = state-length b e in
-        rw (state-some b e)
-        (ap (kept (a .number)) (h ∙ into-state b (a .channel) l)
-        ∙ ap (λ (x : Finished). kept (x .number) (encode (x .channel))) (g ∙ ap (λ (t : Channel). finished (finishOf t id)) (f ∙ from-state b l)))
+        rw (state-read b s e f)
+        (ap (kept (a .number)) (state-put b b′ (a .channel) (state-length b e) h) ∙ ap (λ (x : Finished). kept (x .number) (encode (x .channel))) g)
 
   module _ (work input out : List ℕ) where
     pub feed-short : length work < workArea → answer 2 0 0 b work out ≡ feedAnswer b work input out
@@ -62,7 +51,5 @@ module _ (b : List ℕ) where
         → answer (a .number) (a .taken) (a .written) b′ work′ out′ ≡ feedAnswer b work input out
     unfolding feedAnswer
     feed-done h e s a b′ work′ out′ f g k =
-        let l : length b ≡ stateLength = state-length b e in
-        rw (le-ltb _ _ h, state-some b e)
-        (ap (λ (x : List ℕ). answer (a .number) (a .taken) (a .written) x work′ out′) (k ∙ into-state b (a .channel) l)
-        ∙ ap fedAnswer (g ∙ ap (λ (t : Channel). feedOf t work input out) (f ∙ from-state b l)))
+        rw (le-ltb _ _ h, state-read b s e f)
+        (ap (λ (x : List ℕ). answer (a .number) (a .taken) (a .written) x work′ out′) (state-put b b′ (a .channel) (state-length b e) k) ∙ ap fedAnswer g)

@@ -12,9 +12,10 @@ use Rattle.requests.specs.declared.Phase.the-variants.{Free, Collecting, Waitin
 use Rattle.requests.specs.declared.Slot.{Slot}
 use Rattle.requests.specs.Phases.{code}
 use Rattle.channel.specs.declared.Channel.{Channel}
+use Rattle.channel.specs.Receiver.{freshState}
 use Rattle.fields.specs.Laws.{AllFit, Lawful}
-use Rattle.fields.proofs.FieldLaws.{InBytes, Any, all-any, number-lawful, choice-lawful, flag-lawful, both-lawful, many-lawful, standing-lawful, value-length, value-some, value-none, back as value-back, only as value-only}
-use Rattle.layout.specs.State.{phaseOf, phaseCount, slot, channel, stateLength, encode, decode, isState, stateOf}
+use Rattle.fields.proofs.FieldLaws.{InBytes, Any, all-any, number-lawful, choice-lawful, flag-lawful, both-lawful, many-lawful, standing-lawful, value-length, value-none, value-read, value-put, back as value-back, only as value-only}
+use Rattle.layout.specs.State.{phaseOf, phaseCount, slot, channel, stateLength, encode, decode, isState, stateFrom, stateInto}
 use Rattle.layout.specs.Laws.{SlotFits, StateFits, Back, Only}
 
 -- ---- each field has its laws
@@ -93,9 +94,13 @@ pub state-length : (b : List ℕ) → isState b ≡ true → length b ≡ stateL
 unfolding isState
 state-length = value-length channel
 
-pub state-some : (b : List ℕ) → isState b ≡ true → decode b ≡ some (stateOf b)
-unfolding isState stateOf decode
-state-some = value-some channel
+pub state-read : (b : List ℕ) (s : Channel) → isState b ≡ true → s ≡ stateFrom b → decode b ≡ some s
+unfolding isState stateFrom decode
+state-read = value-read channel freshState
+
+pub state-put : (b b′ : List ℕ) (s : Channel) → length b ≡ stateLength → b′ ≡ stateInto b s → b′ ≡ encode s
+unfolding stateInto encode
+state-put = value-put channel
 
 pub state-none : (b : List ℕ) → isState b ≡ false → decode b ≡ none
 unfolding isState decode

@@ -14,7 +14,7 @@ use Rattle.requests.specs.declared.Slot.{Slot}
 use Rattle.requests.specs.Phases.{code}
 use Rattle.channel.specs.declared.Channel.{Channel}
 use Rattle.channel.specs.Receiver.{freshState}
-use Rattle.fields.specs.Fields.{Field, number, choice, flag, both, many, standing, isValue, decode as decodeBy}
+use Rattle.fields.specs.Fields.{Field, number, choice, flag, both, many, standing, isValue, decode as decodeBy, valueFrom, valueInto}
 
 -- ---- the fields
 
@@ -78,7 +78,7 @@ decode b = decodeBy channel b
 
 -- what the code answers for bytes of any length
 unfoldable pub stateFrom : List ℕ → Channel
-stateFrom b = cond (eqb (length b) stateLength) (stateOf b) freshState
+stateFrom b = valueFrom channel freshState b
 
 unfoldable pub stateInto : List ℕ → Channel → List ℕ
-stateInto b s = cond (eqb (length b) stateLength) (encode s) b
+stateInto b s = valueInto channel b s

@@ -2,7 +2,7 @@
 -- Assumes nothing.
 use borrow.Author.Needs.{needs}
 use borrow.Author.Tests.{eq-eqb, ne-eqb}
-use Rattle.layout.specs.State.{stateFrom}
+use Rattle.layout.specs.State.{stateOf, stateFrom}
 use Rattle.layout.proofs.state_of.Statement.{statement}
 use Rattle.layout.proofs.state_of.Tie as tie
 
@@ -11,7 +11,7 @@ unfolding stateFrom
 returns c = rw (ne-eqb _ _ (c .before .if1 .taken), c .fresh .ensures)
 
 returns-2 : tie.Need-returns-2
-unfolding stateFrom
+unfolding stateFrom stateOf
 returns-2 c = rw (eq-eqb _ _ (c .before .if1 .left), c .read-state .ensures)
 
 pub state-of-spec : {M : Type 1} → statement M
