@@ -1,12 +1,12 @@
 -- What a command that is accepted asks for, told from the tests that it passed; and that a command which asks so passes them.
 -- Assumes nothing.
-use Prim.Native.Nat.{ℕ, suc, _<_, _≤_}
+use Prim.Native.Nat.{ℕ, suc}
 use mathlib.Core.Path.{_≡_, refl, sym, ap, _∙_}
 use mathlib.Core.Bool.{Bool, true, false, cond, _&&_, _||_, false≢true}
 use mathlib.Core.List.{List, [], _∷_}
 use native.Mathlib.Omega.{arith}
 use lib.Dec.{eqb, leb, ltb}
-use lib.IntN.{ℤ, pos, negsuc}
+use lib.IntN.{pos, negsuc}
 use lib.ListN.{length}
 use borrow.Author.Tests.{eqb-true, ltb-true, leb-true, lt-ltb, le-leb}
 use Rattle.keys.specs.Keys.{part, equal}
@@ -31,7 +31,7 @@ use Rattle.command.specs.Lookup.{placeOf, placeNumber, nameOf, countOf, argumen
 use Rattle.board.specs.declared.Change.{Change}
 use Rattle.board.specs.declared.Change.the-variants.{Switch, Label, AllOff, Refused}
 use Rattle.board.specs.Commands.{set-name, label-name, off-name, coil-key, on-key, text-key, switchItem, coilCount, longestLabel, isInteger, coilOf, isTrue, isSwitch, coilArgument, coil, onArgument, itemIn, textItem, inOrder, setChange, labelChange, offChange, byName, changeOf}
-use Rattle.board.specs.Laws.{Only, Named, NamesCoil, AsksSet, AsksLabel, AsksOff}
+use Rattle.board.specs.Laws.{Only, NamesCoil, AsksSet, AsksLabel, AsksOff}
 use Rattle.board.proofs.Only.{placeIn, only-two, only-none}
 
 -- ---- an argument that passes its tests

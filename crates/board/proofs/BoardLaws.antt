@@ -1,9 +1,9 @@
 -- What a command changes and what it leaves as it was, and what a label's unused places read.
 -- Assumes nothing.
 use Prim.Native.Nat.{ℕ, zero, suc, _<_, _≤_}
-use mathlib.Core.Path.{_≡_, refl, sym, ap, _∙_}
+use mathlib.Core.Path.{_≡_, refl, ap, _∙_}
 use mathlib.Core.Bool.{Bool, false}
-use mathlib.Core.List.{List, [], _∷_, map, foldl}
+use mathlib.Core.List.{List, [], _∷_}
 use native.Mathlib.Omega.{arith}
 use lib.Dec.{lit≤}
 use lib.ListN.{length, take, getD, set, replicate, length-set, length-map, length-replicate, List·getD-map}
@@ -18,7 +18,7 @@ use Rattle.board.specs.declared.Change.the-variants.{Switch, Label, AllO
 use Rattle.board.specs.Commands.{coilCount, longestLabel, changeOf, changeNumber}
 use Rattle.board.specs.Board.{firstCoil, firstBoard, coilAt, withCoil, switched, labelled, allOff, changed, applied, after}
 use Rattle.board.specs.Laws as laws
-use Rattle.board.specs.Laws.{AsksSet, SameLabel, Others, Switched, Labelled, RefusedKeeps, Done, AcceptedDoes, AskedAccepted, Clear, Every, UnusedZero}
+use Rattle.board.specs.Laws.{AsksSet, Others, Switched, Labelled, RefusedKeeps, Done, AcceptedDoes, AskedAccepted, Clear, Every, UnusedZero}
 use Rattle.board.proofs.Asked.{Says, says, asks-set, asks-label, asks-off}
 
 -- ---- a refused command

@@ -19,11 +19,6 @@ offTo zero l = l
 offTo (suc i) [] = []
 offTo (suc i) (x ∷ l) = switched false x ∷ offTo i l
 
-pub off-length : (i : ℕ) (l : List Coil) → length (offTo i l) ≡ length l
-off-length zero l = refl
-off-length (suc i) [] = refl
-off-length (suc i) (x ∷ l) = ap suc (off-length i l)
-
 pub off-more : (l : List Coil) (i : ℕ) (d : Coil) → i < length l → set (offTo i l) i (switched false (getD (offTo i l) i d)) ≡ offTo (suc i) l
 off-more [] i d h = absurd (omega arith)
 off-more (x ∷ l) zero d h = refl

@@ -1,6 +1,6 @@
 -- The coil that an integer names, by the test of the integer: it is outside 0 to 15, or not.
 -- Assumes nothing.
-use Prim.Native.Nat.{ℕ, _<_, _≤_}
+use Prim.Native.Nat.{_<_, _≤_}
 use mathlib.Core.Path.{_≡_, refl, sym}
 use mathlib.Core.Bool.{true, false, _||_, false≢true}
 use native.Mathlib.Omega.{arith}

@@ -14,7 +14,7 @@ use Rattle.entries.specs.Entries.{isKeyed, onward, entryAt, entries, hasKey, fi
 use Rattle.command_map.specs.declared.Checked.{Checked}
 use Rattle.command_map.specs.declared.Checked.the-variants.{Command, NotItem, NotCommand, DoubleKey}
 use Rattle.command.specs.declared.Place.{Place}
-use Rattle.command.specs.declared.Place.the-variants.{Found, NotFound}
+use Rattle.command.specs.declared.Place.the-variants.{NotFound}
 use Rattle.command.specs.Command.{checked, ifCommand, numberOf}
 use Rattle.command.specs.Lookup.{placeOf, placeNumber, countOf, argumentAt}
 use Rattle.board.specs.Laws.{Only}

@@ -1,11 +1,10 @@
 -- The board in bytes: sixteen coils of switch (1, 0 or 1), length (1, 0 to 16) and label (16, as they are), 288 in all. Label bytes past the
 -- length may be any. These are definitions: they assume nothing.
 use Prim.Native.Nat.{ℕ, suc, _+_, _*_}
-use mathlib.Core.Bool.{Bool, cond}
+use mathlib.Core.Bool.{Bool}
 use mathlib.Core.List.{List}
 use mathlib.Core.Option.{Option}
 use lib.ListN.{length}
-use lib.Dec.{eqb}
 use Rattle.board.specs.declared.Coil.{Coil}
 use Rattle.board.specs.declared.Board.{Board}
 use Rattle.board.specs.Commands.{coilCount, longestLabel}

@@ -1,22 +1,21 @@
 -- The whole way: demand 3 makes a session its uncut reading, the round trip makes that the command sent, and the board applies it.
 -- Assumes nothing.
 use Prim.Native.Nat.{ℕ, zero, suc, _+_, _<_, _≤_}
-use mathlib.Core.Path.{_≡_, refl, sym, ap, _∙_}
+use mathlib.Core.Path.{_≡_, refl, ap, _∙_}
 use mathlib.Core.Bool.{Bool, true, false, cond}
-use mathlib.Core.List.{List, [], _∷_, _++_, map, head-eq-of-cons-eq, tail-eq-of-cons-eq}
+use mathlib.Core.List.{List, [], _∷_, map, head-eq-of-cons-eq, tail-eq-of-cons-eq}
 use native.Mathlib.Omega.{arith}
 use lib.Dec.{lit<}
 use lib.IntN.{pos}
-use lib.ListN.{length, getD}
+use lib.ListN.{length}
 use Rattle.keys.specs.Keys.{part, equal}
 use Rattle.cbor.specs.Cbor.{width, bigEndian, headValue, headOf, headAt, bytesAt, tagged, itemAt, value}
 use Rattle.cbor.specs.Heads.{bigBytes, shortest, headBytes, stringBytes}
 use Rattle.entries.specs.Entries.{entryAt, entries, find}
-use Rattle.frame.specs.Records.{requestRecord}
 use Rattle.command.specs.declared.Number.{Number}
 use Rattle.command.specs.declared.Number.the-variants.{Whole}
 use Rattle.command.specs.Lookup.{partAt, integerIn}
-use Rattle.session.specs.Session.{Call, Outcome, took, uncut, session, events}
+use Rattle.session.specs.Session.{Outcome, session}
 use Rattle.channel.specs.Receiver.{Receiver}
 use Rattle.channel.specs.Channel.{channel}
 use Rattle.demands.proofs.Demand3.{demand3}
@@ -24,15 +23,15 @@ use Rattle.sender.specs.declared.Wishes.{Wishes}
 use Rattle.sender.specs.Parts.{commandBytes}
 use Rattle.sender.specs.Frames.{dataFrames}
 use Rattle.sender.specs.Send.{sendOf}
-use Rattle.round_trip.specs.RoundTrip.{Fits, Ready, dataRecords, payloads, Arrives, writtenBytes}
+use Rattle.round_trip.specs.RoundTrip.{dataRecords, payloads}
 use Rattle.round_trip.specs.ReadBack.{placeIn}
 use Rattle.round_trip.proofs.Frames.{message-framed}
-use Rattle.round_trip.proofs.RoundTrip.{NotRefused, not-refused, round-trip}
+use Rattle.round_trip.proofs.RoundTrip.{not-refused, round-trip}
 use Rattle.round_trip.proofs.ReadBack.{read-back}
 use Rattle.board.specs.declared.Board.{Board}
-use Rattle.board.specs.Commands.{set-name, coil-key, on-key, switchItem, coilCount}
+use Rattle.board.specs.Commands.{set-name, coil-key, on-key, switchItem}
 use Rattle.board.specs.Board.{applied, after}
-use Rattle.board.specs.Laws.{AsksSet, Switched}
+use Rattle.board.specs.Laws.{AsksSet}
 use Rattle.board.proofs.BoardLaws.{set-does}
 use Rattle.board_session.specs.BoardSession.{firstCommands, commandsIn, boardAfter, BoardUncut, SentApplied, PairsAsk, SetSwitches, setPairs, PlainPairs}
 use Rattle.board_session.proofs.Records.{none, data-none, filled-short, one-command}

@@ -1,7 +1,7 @@
 -- The commands in joined records: a record at the front gives its command, and records of data give none.
 -- Assumes nothing.
 use Prim.Native.Nat.{ℕ, zero, suc, _+_, _-_, _<_, _≤_}
-use mathlib.Core.Path.{_≡_, refl, sym, ap, _∙_}
+use mathlib.Core.Path.{_≡_, refl, ap, _∙_}
 use mathlib.Core.Bool.{Bool, true, false}
 use mathlib.Core.List.{List, [], _∷_, _++_, append-nil}
 use native.Mathlib.Omega.{arith}
@@ -9,7 +9,7 @@ use lib.ListN.{length, take, drop, length-append}
 use lib.Seq.{drop-at, take-append-seam}
 use borrow.Author.Tests.{le-ltb}
 use Rattle.frame.specs.Frame.{Frame}
-use Rattle.frame.specs.Records.{bit, recordOf, requestRecord}
+use Rattle.frame.specs.Records.{recordOf, requestRecord}
 use Rattle.records.specs.Records.{numberAt}
 use Rattle.records.proofs.ReadBack.{joined}
 use Rattle.round_trip.specs.RoundTrip.{dataRecords, payloads}

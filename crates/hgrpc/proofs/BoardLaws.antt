@@ -1,20 +1,18 @@
 -- The calls on a board's bytes over whole lists of commands, what a refusal leaves, and where a label stands.
 -- Assumes nothing.
-use Prim.Native.Nat.{ℕ, zero, suc, _<_, _≤_}
-use mathlib.Core.Bool.{Bool, true}
+use Prim.Native.Nat.{ℕ, zero, suc, _≤_}
 use mathlib.Core.List.{List, [], _∷_, foldl}
 use mathlib.Core.Option.{Option, some, none}
-use mathlib.Core.Path.{_≡_, refl, sym, ap, _∙_}
+use mathlib.Core.Path.{_≡_, refl, ap, _∙_}
 use native.Mathlib.Omega.{arith}
 use lib.Dec.{lit≤}
-use lib.ListN.{length, take, drop, getD, replicate}
+use lib.ListN.{length, getD, replicate}
 use borrow.Author.Tests.{lt-ltb}
 use Rattle.buffer.proofs.WriteLaws.{length-write}
 use Rattle.board.specs.declared.Coil.{Coil}
 use Rattle.board.specs.declared.Board.{Board}
-use Rattle.board.specs.declared.Applied.{Applied}
 use Rattle.board.specs.Commands.{coilCount, longestLabel}
-use Rattle.board.specs.Board.{firstCoil, firstBoard, coilAt, applied, after}
+use Rattle.board.specs.Board.{firstCoil, firstBoard, applied, after}
 use Rattle.board.specs.Laws.{Every}
 use Rattle.board.proofs.BoardLaws.{refused-keeps, Stays, applied-every, first-every}
 use Rattle.fields.specs.Laws.{AreBytes, AllFit}

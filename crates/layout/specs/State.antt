@@ -2,11 +2,10 @@
 -- byte for each of the 128 streams, 179 in all. Numbers are little-endian, as wide as rule 3 lets them grow; a phase has its code, a bool 1
 -- for true. These are definitions: they assume nothing.
 use Prim.Native.Nat.{ℕ}
-use mathlib.Core.Bool.{Bool, cond}
+use mathlib.Core.Bool.{Bool}
 use mathlib.Core.List.{List, [], _∷_}
 use mathlib.Core.Option.{Option}
 use lib.ListN.{length, getD}
-use lib.Dec.{eqb}
 use Rattle.frame.specs.Limits.{slotCount, streamCount}
 use Rattle.requests.specs.declared.Phase.{Phase}
 use Rattle.requests.specs.declared.Phase.the-variants.{Free, Collecting, Waiting, Running}

@@ -1,12 +1,12 @@
 -- `board::Board::all_off` meets its contract, coil by coil.
 -- Assumes nothing.
 use Prim.Native.Nat.{_≤_, _-_, _<_}
-use mathlib.Core.Path.{_≡_, refl, sym, ap, _∙_}
+use mathlib.Core.Path.{_≡_, refl, sym, _∙_}
 use native.Mathlib.Numerals.{add-one}
 use native.Mathlib.Omega.{arith}
 use lib.ListN.{length, length-map}
 use borrow.Author.Needs.{needs}
-use Rattle.board.proofs.Coils.{offTo, off-length, off-more, off-all}
+use Rattle.board.proofs.Coils.{offTo, off-more, off-all}
 use Rattle.board.proofs.Board.all_off.Statement.{statement}
 use Rattle.board.proofs.Board.all_off.Tie as tie
 
