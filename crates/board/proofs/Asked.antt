@@ -30,7 +30,7 @@ use Rattle.command.specs.Command.{checked, ifCommand, numberOf}
 use Rattle.command.specs.Lookup.{placeOf, placeNumber, nameOf, countOf, argumentAt, partAt, integerIn, integerAt}
 use Rattle.board.specs.declared.Change.{Change}
 use Rattle.board.specs.declared.Change.the-variants.{Switch, Label, AllOff, Refused}
-use Rattle.board.specs.Commands.{set-name, label-name, off-name, coil-key, on-key, text-key, switchItem, coilCount, longestLabel, isInteger, coilOf, isTrue, isSwitch, coilArgument, coil, onArgument, itemIn, textItem, inOrder, setChange, labelChange, offChange, byName, changeOf}
+use Rattle.board.specs.Commands.{set-name, label-name, off-name, coil-key, on-key, text-key, switchItem, coilCount, longestLabel, isInteger, coilOf, isTrue, isSwitch, coilArgument, coil, onArgument, itemIn, textItem, inOrder, setChange, labelChange, takes, byName, changeOf}
 use Rattle.board.specs.Laws.{Only, NamesCoil, AsksSet, AsksLabel, AsksOff}
 use Rattle.board.proofs.Only.{placeIn, only-two, only-none}
 
@@ -114,9 +114,6 @@ module _ (s : List ℕ) where
     coil-says : isInteger (coilArgument s) ≡ true → ltb (coil s) coilCount ≡ true → NamesCoil s (coil s)
     coil-says z l = record { coil = coil-is (coilArgument s) z l; below = ltb-true (coil s) coilCount l }
 
-    abbrev takesCoil : Bool
-    takesCoil = eqb (countOf s) 2 && isInteger (coilArgument s)
-
     -- what remains where no refusal applies
     in-order-says : (typed there fits : Bool) (x : Change) → (typed ≡ true → there ≡ true → fits ≡ true → Says x) → Says (inOrder typed there fits x)
     in-order-says false there fits x h = refused 40
@@ -124,25 +121,20 @@ module _ (s : List ℕ) where
     in-order-says true true false x h = refused 42
     in-order-says true true true x h = h refl refl refl
 
-    set-says : nameOf s ≡ set-name → Says (setChange s (countOf s))
+    set-says : nameOf s ≡ set-name → countOf s ≡ 2 → Says (setChange s)
     unfolding setChange equal
-    set-says name = in-order-says (takesCoil && isSwitch (onArgument s)) (ltb (coil s) coilCount) true (Switch (coil s) (isTrue (onArgument s))) (λ typed there fits.
-        let w = and-right takesCoil (isSwitch (onArgument s)) typed in
-        let p = and-left takesCoil (isSwitch (onArgument s)) typed in
-        let z = and-right (eqb (countOf s) 2) (isInteger (coilArgument s)) p in
-        let n = eqb-true (countOf s) 2 (and-left (eqb (countOf s) 2) (isInteger (coilArgument s)) p) in
+    set-says name n = in-order-says (isInteger (coilArgument s) && isSwitch (onArgument s)) (ltb (coil s) coilCount) true (Switch (coil s) (isTrue (onArgument s))) (λ typed there fits.
+        let z = and-left (isInteger (coilArgument s)) (isSwitch (onArgument s)) typed in
+        let w = and-right (isInteger (coilArgument s)) (isSwitch (onArgument s)) typed in
         record {
           asks = record { named = record { number = number; name = name; count = n }; coil = coil-says z there; on = switch-is (onArgument s) w };
           only = only-two s coil-key on-key refl n (coil-found z) (on-found w);
         })
 
-    label-says : nameOf s ≡ label-name → Says (labelChange s (countOf s))
+    label-says : nameOf s ≡ label-name → countOf s ≡ 2 → Says (labelChange s)
     unfolding labelChange equal
-    label-says name = by-bytes Says (textItem s) _ _ (λ start stop x.
-        in-order-says takesCoil (ltb (coil s) coilCount) (leb (length (part s start stop)) longestLabel) (Label (coil s) start stop) (λ typed there fits.
-        let z = and-right (eqb (countOf s) 2) (isInteger (coilArgument s)) typed in
-        let n = eqb-true (countOf s) 2 (and-left (eqb (countOf s) 2) (isInteger (coilArgument s)) typed) in
-        record {
+    label-says name n = by-bytes Says (textItem s) _ _ (λ start stop x.
+        in-order-says (isInteger (coilArgument s)) (ltb (coil s) coilCount) (leb (length (part s start stop)) longestLabel) (Label (coil s) start stop) (λ z there fits. record {
           asks = record {
             named = record { number = number; name = name; count = n };
             coil = coil-says z there;
@@ -155,23 +147,27 @@ module _ (s : List ℕ) where
           only = only-two s coil-key text-key refl n (coil-found z) (text-found start stop x);
         })) (refused 40)
 
-    off-says : nameOf s ≡ off-name → Says (offChange (countOf s))
-    unfolding offChange
-    off-says name = in-order-says (eqb (countOf s) 0) true true AllOff (λ typed there fits.
-        let n = eqb-true (countOf s) 0 typed in
-        record { asks = record { number = number; name = name; count = n }; only = only-none s number n })
+    off-says : nameOf s ≡ off-name → countOf s ≡ 0 → Says AllOff
+    off-says name n = record { asks = record { number = number; name = name; count = n }; only = only-none s number n }
 
-    name-says : Says (byName s)
+    -- the command of a word, with as many arguments as it takes
+    takes-says : (word : List ℕ) (n : ℕ) (x others : Change) → (nameOf s ≡ word → countOf s ≡ n → Says x) → Says others → Says (takes s (nameOf s) (countOf s) word n x others)
+    takes-says word n x others h g =
+        by-test Says (equal word (nameOf s)) (λ e.
+        by-test Says (eqb (countOf s) n) (λ k. h (sym (equal-true word (nameOf s) e)) (eqb-true (countOf s) n k)) (λ k. refused 40)) (λ e. g)
+
+    name-says : Says (byName s (nameOf s) (countOf s))
+    unfolding byName
     name-says =
-        by-test Says (equal set-name (nameOf s)) (λ e. set-says (sym (equal-true _ _ e))) (λ e.
-        by-test Says (equal label-name (nameOf s)) (λ e. label-says (sym (equal-true _ _ e))) (λ e.
-        by-test Says (equal off-name (nameOf s)) (λ e. off-says (sym (equal-true _ _ e))) (λ e. refused 39)))
+        takes-says set-name 2 (setChange s) _ set-says
+        (takes-says label-name 2 (labelChange s) _ label-says
+        (takes-says off-name 0 AllOff (Refused 40) off-says (refused 39)))
 
   pub says : Says (changeOf s)
   unfolding changeOf
   says = by (checked s) refl
     where
-      by : (c : Checked) → checked s ≡ c → Says (ifCommand c (λ start stop count first. byName s) Refused)
+      by : (c : Checked) → checked s ≡ c → Says (ifCommand c (λ start stop count first. byName s (nameOf s) (countOf s)) Refused)
       by (Command start stop count first) e = name-says (ap numberOf e)
       by NotItem e = refused 23
       by NotCommand e = refused 24
@@ -184,18 +180,18 @@ module _ (s : List ℕ) where
   switch-true true = (refl, refl)
   switch-true false = (refl, refl)
 
-  accepted : numberOf (checked s) ≡ 0 → changeOf s ≡ byName s
+  accepted : numberOf (checked s) ≡ 0 → changeOf s ≡ byName s (nameOf s) (countOf s)
   unfolding changeOf
   accepted h = by (checked s) h
     where
-      by : (c : Checked) → numberOf c ≡ 0 → ifCommand c (λ start stop count first. byName s) Refused ≡ byName s
+      by : (c : Checked) → numberOf c ≡ 0 → ifCommand c (λ start stop count first. byName s (nameOf s) (countOf s)) Refused ≡ byName s (nameOf s) (countOf s)
       by (Command start stop count first) e = refl
       by NotItem e = absurd (omega arith)
       by NotCommand e = absurd (omega arith)
       by DoubleKey e = absurd (omega arith)
 
   pub asks-set : (i : ℕ) (v : Bool) → AsksSet s i v → changeOf s ≡ Switch i v
-  unfolding setChange equal
+  unfolding byName setChange equal
   asks-set i v a =
       let t = switch-true v in
       accepted (a .named .number)
@@ -203,12 +199,12 @@ module _ (s : List ℕ) where
       (rw (lt-ltb i 16 (a .coil .below)))
 
   pub asks-label : (i : ℕ) (t : List ℕ) (a : AsksLabel s i t) → changeOf s ≡ Label i (a .start) (a .stop)
-  unfolding labelChange equal
+  unfolding byName labelChange equal
   asks-label i t a =
       accepted (a .named .number)
       ∙ rw (a .named .name, a .named .count, a .coil .coil, a .text, lt-ltb i 16 (a .coil .below), a .content, le-leb (length t) 16 (a .fits))
       (rw (lt-ltb i 16 (a .coil .below)))
 
   pub asks-off : AsksOff s → changeOf s ≡ AllOff
-  unfolding offChange equal
+  unfolding byName equal
   asks-off a = accepted (a .number) ∙ rw (a .name, a .count)

@@ -8,14 +8,14 @@ use Rattle.entries.specs.Entries.{all, any, entryAt, entries, contents, find}
 use Rattle.command_map.specs.CommandMap.{allowed, valueUnder, argsDouble, double, mapOf}
 use Rattle.command.specs.Command.{checked}
 use Rattle.command.specs.Lookup.{nameOf, countOf, argumentAt, integerAt}
-use Rattle.board.specs.Commands.{isTrue, isSwitch, textItem, setChange, labelChange, offChange, changeOf}
+use Rattle.board.specs.Commands.{isTrue, isSwitch, textItem, setChange, labelChange, byName, changeOf}
 use Rattle.board.specs.Board.{firstBoard, applied, after}
 use Rattle.board.specs.Traces.{traces, session, ended, TracesHold, SessionEnds}
 
 pub traces-hold : TracesHold
-unfolding traces changeOf offChange labelChange setChange textItem isSwitch isTrue integerAt argumentAt countOf nameOf checked mapOf double argsDouble valueUnder allowed find contents entries entryAt any all twice among equal part isItem value pair key repeat itemAt tagged bytesAt headAt headOf headValue bigEndian width
+unfolding traces changeOf byName labelChange setChange textItem isSwitch isTrue integerAt argumentAt countOf nameOf checked mapOf double argsDouble valueUnder allowed find contents entries entryAt any all twice among equal part isItem value pair key repeat itemAt tagged bytesAt headAt headOf headValue bigEndian width
 traces-hold = refl
 
 pub session-ends : SessionEnds
-unfolding session ended after applied firstBoard write changeOf offChange labelChange setChange textItem isSwitch isTrue integerAt argumentAt countOf nameOf checked mapOf double argsDouble valueUnder allowed find contents entries entryAt any all twice among equal part isItem value pair key repeat itemAt tagged bytesAt headAt headOf headValue bigEndian width
+unfolding session ended after applied firstBoard write changeOf byName labelChange setChange textItem isSwitch isTrue integerAt argumentAt countOf nameOf checked mapOf double argsDouble valueUnder allowed find contents entries entryAt any all twice among equal part isItem value pair key repeat itemAt tagged bytesAt headAt headOf headValue bigEndian width
 session-ends = refl

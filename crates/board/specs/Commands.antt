@@ -76,7 +76,7 @@ isSwitch item = isTrue item || equal (switchItem false) item
 
 -- ---- the refusals of arguments
 
--- 41 argument missing, extra or of the wrong type, 42 coil not 0 to 15, 43 text over 16 bytes, in this order
+-- 41 argument missing or of the wrong type, 42 coil not 0 to 15, 43 text over 16 bytes, in this order
 abbrev pub inOrder : Bool → Bool → Bool → Change → Change
 inOrder typed there fits c =
     cond (not typed) (change.Refused 41)
@@ -101,39 +101,37 @@ module _ (s : List ℕ) where
   unfoldable pub textItem : Item
   textItem = itemIn (argumentAt s text-key)
 
-  -- `set` takes exactly `coil` and `on` (true or false)
-  unfoldable pub setChange : ℕ → Change
-  setChange count =
-      inOrder ((eqb count 2 && isInteger coilArgument) && isSwitch onArgument) (ltb coil coilCount) true
+  -- ---- the commands
+
+  -- `coil` and `on` (true or false)
+  unfoldable pub setChange : Change
+  setChange =
+      inOrder (isInteger coilArgument && isSwitch onArgument) (ltb coil coilCount) true
       (change.Switch coil (isTrue onArgument))
 
-  -- `label` takes exactly `coil` and `text` (bytes)
-  unfoldable pub labelChange : ℕ → Change
-  labelChange count =
+  -- `coil` and `text` (bytes)
+  unfoldable pub labelChange : Change
+  labelChange =
       ifBytes textItem (λ start stop.
-      inOrder (eqb count 2 && isInteger coilArgument) (ltb coil coilCount) (leb (length (part s start stop)) longestLabel)
+      inOrder (isInteger coilArgument) (ltb coil coilCount) (leb (length (part s start stop)) longestLabel)
       (change.Label coil start stop)) (change.Refused 41)
 
--- `off` takes no arguments and turns all off
-unfoldable pub offChange : ℕ → Change
-offChange count = inOrder (eqb count 0) true true change.AllOff
+  module _ (name : List ℕ) (count : ℕ) where
+    -- the command of this word, which takes exactly n arguments (41: one missing or extra) and asks for this; or one of the others
+    abbrev pub takes : List ℕ → ℕ → Change → Change → Change
+    takes word n c others = cond (equal word name) (cond (eqb count n) c (change.Refused 41)) others
 
-module _ (s : List ℕ) where
-  -- this command, or one of the others
-  abbrev named : List ℕ → Change → Change → Change
-  named name c others = cond (equal name (nameOf s)) c others
-
-  -- 40: an unknown command
-  abbrev pub byName : Change
-  byName =
-      named set-name (setChange s (countOf s))
-      (named label-name (labelChange s (countOf s))
-      (named off-name (offChange (countOf s))
-      (change.Refused 40)))
+    -- `set`, `label`, and `off`, which turns all off; 40 unknown command
+    unfoldable pub byName : Change
+    byName =
+        takes set-name 2 setChange
+        (takes label-name 2 labelChange
+        (takes off-name 0 change.AllOff
+        (change.Refused 40)))
 
   -- 24 to 26 come before them
   unfoldable pub changeOf : Change
-  changeOf = ifCommand (checked s) (λ start stop count first. byName) change.Refused
+  changeOf = ifCommand (checked s) (λ start stop count first. byName (nameOf s) (countOf s)) change.Refused
 
 -- the number of each
 abbrev pub changeNumber : Change → ℕ

@@ -5,7 +5,14 @@ use command::Number;
 use command::Place;
 use command_map::Checked;
 ghost use mathlib.Core.Path.{_≡_};
-ghost use Rattle.board.specs.Commands.{isInteger, coilNamed, coilOf, isSwitch, isTrue, textItem, inOrder, setChange, labelChange, offChange, changeOf, changeNumber};
+ghost use Rattle.board.specs.Commands.{isInteger, coilNamed, coilOf, isSwitch, isTrue, textItem, inOrder, setChange, labelChange, byName, changeOf, changeNumber};
+
+// How many arguments each command takes.
+const SET_TAKES: u64 = 2;
+
+const LABEL_TAKES: u64 = 2;
+
+const OFF_TAKES: u64 = 0;
 
 // Whether an argument is an integer, of any size: 8 is the lookup's number for one outside 64 bits.
 fn is_integer(z: Number) -> bool
@@ -64,36 +71,35 @@ fn text_item(command: &[u8]) -> Item
     cbor::read_item(command, start)
 }
 
-// The change, unless a refusal applies: 41 an argument missing, extra or of the wrong type, 42 no such coil, 43 a text too long, in this order.
+// The change, unless a refusal applies: 41 an argument missing or of the wrong type, 42 no such coil, 43 a text too long, in this order.
 fn in_order(typed: bool, there: bool, fits: bool, change: Change) -> Change
     ensures { λ r. ⌜ r ≡ inOrder typed there fits change ⌝ }
 {
     if !typed {
-        return Change::Refused(41);
+        Change::Refused(41)
+    } else if !there {
+        Change::Refused(42)
+    } else if !fits {
+        Change::Refused(43)
+    } else {
+        change
     }
-    if !there {
-        return Change::Refused(42);
-    }
-    if !fits {
-        return Change::Refused(43);
-    }
-    change
 }
 
-// What `set` with so many arguments asks for.
-fn set_change(command: &[u8], count: u64) -> Change
-    ensures { λ r. ⌜ r ≡ setChange (now (command .entry)) count ⌝ }
+// What `set` asks for.
+fn set_change(command: &[u8]) -> Change
+    ensures { λ r. ⌜ r ≡ setChange (now (command .entry)) ⌝ }
 {
     let z = command::integer_at(command, b"coil");
     let on = command::argument(command, b"on");
     let coil = coil_of(z);
-    let typed = (count == 2) & is_integer(z) & is_switch(on);
+    let typed = is_integer(z) & is_switch(on);
     in_order(typed, coil < 16, true, Change::Switch(coil, is_true(on)))
 }
 
-// What `label` with so many arguments asks for.
-fn label_change(command: &[u8], count: u64) -> Change
-    ensures { λ r. ⌜ r ≡ labelChange (now (command .entry)) count ⌝ }
+// What `label` asks for.
+fn label_change(command: &[u8]) -> Change
+    ensures { λ r. ⌜ r ≡ labelChange (now (command .entry)) ⌝ }
 {
     let z = command::integer_at(command, b"coil");
     let coil = coil_of(z);
@@ -101,11 +107,11 @@ fn label_change(command: &[u8], count: u64) -> Change
     match item {
         Item::Bytes(start, stop) => {
             let text = keys::part(command, start, stop);
-            let typed = (count == 2) & is_integer(z);
+            let fits = text.len() <= 16;
             in_order(
-                typed,
+                is_integer(z),
                 coil < 16,
-                text.len() <= 16,
+                fits,
                 Change::Label(coil, start, stop),
             )
         }
@@ -113,14 +119,33 @@ fn label_change(command: &[u8], count: u64) -> Change
     }
 }
 
-// What `off` with so many arguments asks for.
-fn off_change(count: u64) -> Change
-    ensures { λ r. ⌜ r ≡ offChange count ⌝ }
+// What a command of this name, with so many arguments, asks for; 40 is an unknown command. Arguments are looked up only where there are as
+// many as the command takes, so that many of them cost no more than their check.
+fn by_name(command: &[u8], name: &[u8], count: u64) -> Change
+    ensures { λ r. ⌜ r ≡ byName (now (command .entry)) (now (name .entry)) count ⌝ }
 {
-    in_order(count == 0, true, true, Change::AllOff)
+    if keys::same_key(b"set", name) {
+        if count != SET_TAKES {
+            return Change::Refused(41);
+        }
+        return set_change(command);
+    }
+    if keys::same_key(b"label", name) {
+        if count != LABEL_TAKES {
+            return Change::Refused(41);
+        }
+        return label_change(command);
+    }
+    if keys::same_key(b"off", name) {
+        if count != OFF_TAKES {
+            return Change::Refused(41);
+        }
+        return Change::AllOff;
+    }
+    Change::Refused(40)
 }
 
-// What a command asks for, by its name; the check's number comes first, and 40 is an unknown command.
+// What a command asks for; the check's number comes first.
 pub(crate) fn change_of(command: &[u8]) -> Change
     ensures { λ r. ⌜ r ≡ changeOf (now (command .entry)) ⌝ }
 {
@@ -134,17 +159,7 @@ pub(crate) fn change_of(command: &[u8]) -> Change
     else {
         return Change::Refused(command::refusal(c));
     };
-    let name = keys::part(command, start, stop);
-    if keys::same_key(b"set", name) {
-        return set_change(command, count);
-    }
-    if keys::same_key(b"label", name) {
-        return label_change(command, count);
-    }
-    if keys::same_key(b"off", name) {
-        return off_change(count);
-    }
-    Change::Refused(40)
+    by_name(command, keys::part(command, start, stop), count)
 }
 
 // The number of a change: 0 unless it is a refusal.
