@@ -51,7 +51,17 @@ static void fill(struct row *row, unsigned others)
     }
 }
 
-static struct row rows[8];
+/* An array of integers that fills the command. */
+static void put_array(struct row *row)
+{
+    size_t left = sizeof row->bytes - row->length - 3;
+    const uint8_t head[3] = {0x99, (uint8_t)(left >> 8), (uint8_t)left};
+    put(row, head, sizeof head);
+    memset(row->bytes + row->length, 7, left);
+    row->length += left;
+}
+
+static struct row rows[9];
 
 static size_t make_rows(void)
 {
@@ -64,6 +74,7 @@ static size_t make_rows(void)
     begin(row, "label with one long text", 43, "label", 2, REST("\x44" "coil\x03\x44" "text\x59\x07\xde"));
     put(row, text, sizeof row->bytes - row->length);
     row++;
+    put_array(begin(row++, "set with one long array", 41, "set", 2, REST("\x44" "coil\x03\x42" "on")));
     fill(begin(row++, "set with integers", 41, "set", 49, REST("")), 0);
     fill(begin(row++, "set with as many integers as can be", 41, "set", 507, REST("")), 0);
     fill(begin(row, "the same, `coil` and `on` last", 41, "set", 504, REST("")), 2);
