@@ -1,5 +1,7 @@
 // What a command asks of the board, by the receiver's check and lookups alone.
+use crate::COILS;
 use crate::Change;
+use crate::LONGEST_LABEL;
 use cbor::Item;
 use command::Number;
 use command::Place;
@@ -24,23 +26,23 @@ fn is_integer(z: Number) -> bool
     n == 8
 }
 
-// The coil that an integer names, 16 where it is not 0 to 15.
+// The coil that an integer names, one past the last where it is not 0 to 15.
 fn coil_named(z: i64) -> usize
     ensures { λ r. ⌜ r ≡ coilNamed z ⌝ }
 {
     if (z < 0) | (15 < z) {
-        return 16;
+        return COILS;
     }
     z as usize
 }
 
-// The coil that an argument names, 16 where it names none.
+// The coil that an argument names, one past the last where it names none.
 fn coil_of(z: Number) -> usize
     ensures { λ r. ⌜ r ≡ coilOf z ⌝ }
 {
     match z {
         Number::Whole(n) => coil_named(n),
-        Number::NoNumber(_) => 16,
+        Number::NoNumber(_) => COILS,
     }
 }
 
@@ -94,7 +96,7 @@ fn set_change(command: &[u8]) -> Change
     let on = command::argument(command, b"on");
     let coil = coil_of(z);
     let typed = is_integer(z) & is_switch(on);
-    in_order(typed, coil < 16, true, Change::Switch(coil, is_true(on)))
+    in_order(typed, coil < COILS, true, Change::Switch(coil, is_true(on)))
 }
 
 // What `label` asks for.
@@ -107,10 +109,10 @@ fn label_change(command: &[u8]) -> Change
     match item {
         Item::Bytes(start, stop) => {
             let text = keys::part(command, start, stop);
-            let fits = text.len() <= 16;
+            let fits = text.len() <= LONGEST_LABEL;
             in_order(
                 is_integer(z),
-                coil < 16,
+                coil < COILS,
                 fits,
                 Change::Label(coil, start, stop),
             )

@@ -4,6 +4,11 @@ mod commands;
 ghost use mathlib.Core.Path.{_≡_};
 ghost use Rattle.board.specs.Board.{firstCoil, firstBoard, switched, labelled, coilAt, withCoil, allOff, changed, applied};
 
+// How many coils there are, and how long a label may be.
+pub const COILS: usize = 16;
+
+pub const LONGEST_LABEL: usize = 16;
+
 // A coil: whether it is on, and its label, of whose sixteen places the first `length` are used.
 pub struct Coil {
     pub on: bool,
@@ -85,7 +90,7 @@ impl Board {
         ensures { λ r. ⌜ r ≡ coilAt self i ⌝ }
     {
         let coils = self.coils;
-        if i < 16 {
+        if i < COILS {
             return coils[i];
         }
         Coil::first()
@@ -96,7 +101,7 @@ impl Board {
         ensures { λ r. ⌜ r ≡ withCoil self i c ⌝ }
     {
         let mut coils = self.coils;
-        if i < 16 {
+        if i < COILS {
             coils[i] = c;
         }
         Board { coils }
@@ -108,7 +113,7 @@ impl Board {
     {
         let mut coils = self.coils;
         let mut i: usize = 0;
-        while i < 16 {
+        while i < COILS {
             coils[i] = coils[i].switched(false);
             i += 1;
         }

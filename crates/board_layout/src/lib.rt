@@ -15,9 +15,9 @@ const LENGTH: usize = ON + 1;
 
 pub const LABEL: usize = LENGTH + 1;
 
-pub const COIL: usize = LABEL + 16;
+pub const COIL: usize = LABEL + board::LONGEST_LABEL;
 
-pub const BOARD: usize = 16 * COIL;
+pub const BOARD: usize = board::COILS * COIL;
 
 // How many lengths a label may have.
 const LENGTHS: u8 = 17;
@@ -52,7 +52,7 @@ fn coils_of(b: &[u8]) -> [Coil; 16]
     let first = Board::first();
     let mut coils = first.coils;
     let mut i: usize = 0;
-    while i < 16 {
+    while i < board::COILS {
         coils[i] = coil_at(b, COIL * i);
         i += 1;
     }
@@ -85,7 +85,7 @@ fn are_coils(b: &[u8]) -> bool
     ensures { λ r. ⌜ r ≡ goodAll coil 16 (now (b .entry)) ⌝ }
 {
     let mut good = true;
-    let mut left: usize = 16;
+    let mut left: usize = board::COILS;
     let mut at: usize = 0;
     while 0 < left {
         good = good & is_coil(b, at);
@@ -123,7 +123,7 @@ fn put_coils(b: &mut [u8], coils: [Coil; 16])
     ensures { λ _. ⌜ now (b .exit) ≡ putAll coil coils ⌝ }
 {
     let mut i: usize = 0;
-    while i < 16 {
+    while i < board::COILS {
         put_coil(b, COIL * i, coils[i]);
         i += 1;
     }

@@ -22,7 +22,7 @@ use Rattle.demands.proofs.Demand3.{demand3}
 use Rattle.sender.specs.declared.Wishes.{Wishes}
 use Rattle.sender.specs.Parts.{commandBytes}
 use Rattle.sender.specs.Frames.{dataFrames}
-use Rattle.sender.specs.Send.{sendOf}
+use Rattle.sender.specs.Send.{maxSize, sendOf}
 use Rattle.round_trip.specs.RoundTrip.{dataRecords, payloads}
 use Rattle.round_trip.specs.ReadBack.{placeIn}
 use Rattle.round_trip.proofs.Frames.{message-framed}
@@ -43,7 +43,7 @@ board-uncut b r sound cs = ap (λ (o : Outcome Receiver). boardAfter b (o .recor
 
 -- ---- what was sent is applied
 
-module _ (how : Wishes) (bytes : List ℕ) (some : 0 < how .size) (most : how .size ≤ 4096) where
+module _ (how : Wishes) (bytes : List ℕ) (some : 0 < how .size) (most : how .size ≤ maxSize) where
   none-behind : (with-data : Bool) (n : ℕ) → firstCommands n (cond with-data (dataRecords (how .request) (payloads (dataFrames how bytes))) []) ≡ []
   none-behind true n =
       data-none n (how .request) (payloads (dataFrames how bytes)) (filled-short (how .size) (length bytes) (dataFrames how bytes) (omega arith) (message-framed how [] true bytes some .data-filled))

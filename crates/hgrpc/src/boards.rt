@@ -40,7 +40,7 @@ pub extern "C" fn hgrpc_board_switch(bytes: &[u8], coil: usize, on: &mut bool) -
     if !board_layout::is_board(bytes) {
         return 3;
     }
-    if 16 <= coil {
+    if board::COILS <= coil {
         return 42;
     }
     let board = board_layout::board_of(bytes);
@@ -64,7 +64,7 @@ pub extern "C" fn hgrpc_board_label(
     if !board_layout::is_board(bytes) {
         return 3;
     }
-    if 16 <= coil {
+    if board::COILS <= coil {
         return 42;
     }
     let board = board_layout::board_of(bytes);
