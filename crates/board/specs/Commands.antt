@@ -103,13 +103,13 @@ module _ (s : List ℕ) where
 
   -- ---- the commands
 
-  -- `coil` and `on` (true or false)
+  -- `set`: `coil` and `on` (true or false)
   unfoldable pub setChange : Change
   setChange =
       inOrder (isInteger coilArgument && isSwitch onArgument) (ltb coil coilCount) true
       (change.Switch coil (isTrue onArgument))
 
-  -- `coil` and `text` (bytes)
+  -- `label`: `coil` and `text` (bytes)
   unfoldable pub labelChange : Change
   labelChange =
       ifBytes textItem (λ start stop.
@@ -121,7 +121,7 @@ module _ (s : List ℕ) where
     abbrev pub takes : List ℕ → ℕ → Change → Change → Change
     takes word n c others = cond (equal word name) (cond (eqb count n) c (change.Refused 41)) others
 
-    -- `set`, `label`, and `off`, which turns all off; 40 unknown command
+    -- `set`, `label`, and `off`, which takes no arguments and turns all off; 40 unknown command
     unfoldable pub byName : Change
     byName =
         takes set-name 2 setChange

@@ -23,7 +23,7 @@ pub struct Board {
 
 // What a command asks for: a coil's switch; a coil's label, with the places where the text starts and stops in the command's bytes; all coils
 // off; or nothing, by its refusal number.
-pub enum Change {
+enum Change {
     Switch(usize, bool),
     Label(usize, usize, usize),
     AllOff,
