@@ -15,7 +15,7 @@ use Rattle.entries.specs.Entries.{entryAt, entries, find}
 use Rattle.command.specs.declared.Number.{Number}
 use Rattle.command.specs.declared.Number.the-variants.{Whole}
 use Rattle.command.specs.Lookup.{partAt, integerIn}
-use Rattle.session.specs.Session.{Outcome, session}
+use Rattle.session.specs.Session.{Call, Outcome, took, session, events}
 use Rattle.channel.specs.Receiver.{Receiver}
 use Rattle.channel.specs.Channel.{channel}
 use Rattle.demands.proofs.Demand3.{demand3}
@@ -23,7 +23,7 @@ use Rattle.sender.specs.declared.Wishes.{Wishes}
 use Rattle.sender.specs.Parts.{commandBytes}
 use Rattle.sender.specs.Frames.{dataFrames}
 use Rattle.sender.specs.Send.{maxSize, sendOf}
-use Rattle.round_trip.specs.RoundTrip.{dataRecords, payloads}
+use Rattle.round_trip.specs.RoundTrip.{Fits, Ready, dataRecords, payloads, writtenBytes}
 use Rattle.round_trip.specs.ReadBack.{placeIn}
 use Rattle.round_trip.proofs.Frames.{message-framed}
 use Rattle.round_trip.proofs.RoundTrip.{not-refused, round-trip}
@@ -32,7 +32,7 @@ use Rattle.board.specs.declared.Board.{Board}
 use Rattle.board.specs.Commands.{set-name, coil-key, on-key, switchItem}
 use Rattle.board.specs.Board.{applied, after}
 use Rattle.board.specs.Laws.{AsksSet}
-use Rattle.board.proofs.BoardLaws.{set-does}
+use Rattle.board.proofs.BoardLaws.{refused-keeps, accepted-does, set-does}
 use Rattle.board_session.specs.BoardSession.{firstCommands, commandsIn, boardAfter, BoardUncut, SentApplied, PairsAsk, SetSwitches, setPairs, PlainPairs}
 use Rattle.board_session.proofs.Records.{none, data-none, filled-short, one-command}
 
@@ -53,8 +53,11 @@ once : (b : Board) (records command : List ℕ) → commandsIn records ≡ comma
 unfolding boardAfter after
 once b records command e = rw e
 
-pub sent-applied : SentApplied
-sent-applied how name pairs count with-data bytes out r b fits ready h cs e =
+sent-once : (how : Wishes) (name pairs : List ℕ) (count : ℕ) (with-data : Bool) (bytes out : List ℕ) (r : Receiver) (b : Board) → Fits how → Ready how r
+    → sendOf how (commandBytes name pairs count) with-data bytes out .number ≡ 0 → (cs : List Call)
+    → events channel r cs ≡ map took (writtenBytes (sendOf how (commandBytes name pairs count) with-data bytes out))
+    → boardAfter b (session channel r cs .records) ≡ applied (commandBytes name pairs count) b .board
+sent-once how name pairs count with-data bytes out r b fits ready h cs e =
     let command : List ℕ = commandBytes name pairs count in
     let n = not-refused how command with-data bytes out h in
     let o = n .sendable fits in
@@ -62,6 +65,16 @@ sent-applied how name pairs count with-data bytes out r b fits ready h cs e =
     let short : length command < 65533 = omega (arith, n .long) in
     once b (session channel r cs .records) command
     (rw (a .records) (one-command (how .request) with-data command _ short (none-behind how bytes (o .some) (o .most) with-data)))
+
+pub sent-applied : SentApplied
+sent-applied how name pairs count with-data bytes out r b fits ready h cs e =
+    let command : List ℕ = commandBytes name pairs count in
+    let once = sent-once how name pairs count with-data bytes out r b fits ready h cs e in
+    record {
+      is = once;
+      done = λ sixteen z. rw once (accepted-does command b sixteen z);
+      kept = λ n. once ∙ refused-keeps command b n;
+    }
 
 -- ---- a `set`
 
@@ -81,7 +94,7 @@ module _ (how : Wishes) (pairs : List ℕ) (i : ℕ) (v with-data : Bool) (bytes
 
 pub set-switches : SetSwitches
 set-switches how pairs i v with-data bytes out r b fits ready sixteen p h cs e =
-    rw (sent-applied how set-name pairs 2 with-data bytes out r b fits ready h cs e)
+    rw (sent-once how set-name pairs 2 with-data bytes out r b fits ready h cs e)
     (set-does (commandBytes set-name pairs 2) b i v sixteen (asks how pairs i v with-data bytes out p h))
 
 -- ---- the pairs with shortest heads: antt computes each of the sixteen

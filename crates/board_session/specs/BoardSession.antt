@@ -24,7 +24,7 @@ use Rattle.round_trip.specs.ReadBack.{placeIn}
 use Rattle.board.specs.declared.Board.{Board}
 use Rattle.board.specs.Commands.{set-name, coil-key, on-key, switchItem, coilCount}
 use Rattle.board.specs.Board.{applied, after}
-use Rattle.board.specs.Laws.{Switched}
+use Rattle.board.specs.Laws.{Switched, Done}
 
 -- ---- the board after a session's records
 
@@ -56,13 +56,20 @@ BoardUncut =
     (b : Board) (r : Receiver) → Sound r → (cs : List Call)
     → boardAfter b (session channel r cs .records) ≡ boardAfter b (uncut channel r (events channel r cs) .records)
 
--- a command that is sent with 0 is what the board applies, in every session whose taken bytes are those written; and just once
+-- A board after a session that brought it this command: it is what applying the command once comes to. So an accepted command is done, and
+-- nothing else; a refused one leaves the board as it was.
+pub record AppliedOnce (command : List ℕ) (b next : Board) : Type 0 where
+  pub is : next ≡ applied command b .board
+  pub done : length (b .coils) ≡ coilCount → applied command b .number ≡ 0 → Done command b next
+  pub kept : (applied command b .number ≡ 0 → ⊥) → next ≡ b
+
+-- every command that is sent with 0, in every session whose taken bytes are those written
 abbrev pub SentApplied : Type 0
 SentApplied =
     (how : Wishes) (name pairs : List ℕ) (count : ℕ) (with-data : Bool) (bytes out : List ℕ) (r : Receiver) (b : Board) → Fits how → Ready how r
     → let command = commandBytes name pairs count in let a = sendOf how command with-data bytes out in
     a .number ≡ 0 → (cs : List Call) → events channel r cs ≡ map took (writtenBytes a)
-    → boardAfter b (session channel r cs .records) ≡ applied command b .board
+    → AppliedOnce command b (boardAfter b (session channel r cs .records))
 
 -- two pairs, in any order and with heads of any width, that ask for coil i to be switched to v
 pub record PairsAsk (pairs : List ℕ) (i : ℕ) (v : Bool) : Type 0 where
