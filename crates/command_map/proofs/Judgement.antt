@@ -15,8 +15,9 @@ use Rattle.keys.proofs.Equal.{equal-true}
 use Rattle.entries.proofs.Bools.{and-left, and-right}
 use Rattle.entries.specs.declared.Entry.{Entry}
 use Rattle.entries.specs.declared.Entry.the-variants.{Keyed, Other, Broken}
-use Rattle.entries.specs.declared.Keys.the-variants.{Single, Double, Others}
-use Rattle.entries.specs.Entries.{all, any, isKeyed, entries, contents, hasKey, find, keysOf}
+use Rattle.double_keys.specs.declared.Keys.the-variants.{Single, Double, Others}
+use Rattle.entries.specs.Entries.{all, any, isKeyed, entries, contents, hasKey, find}
+use Rattle.double_keys.specs.DoubleKeys.{keysOf}
 use Rattle.command_map.specs.declared.Checked.{Checked}
 use Rattle.command_map.specs.declared.Checked.the-variants.{NotCommand, DoubleKey}
 use Rattle.command_map.specs.declared.Judged.{Judged}
@@ -73,7 +74,7 @@ module _ (s : List ℕ) where
   by-key-allowed false false true j x = redirect-allowed j (isMap x)
   by-key-allowed false false false j x = sym (and-false (j .allowed))
 
-  all-allowed : (j : Judged) (es : List Entry) → foldl (judge s) j es .allowed ≡ (j .allowed && all (allowed s) es)
+  pub all-allowed : (j : Judged) (es : List Entry) → foldl (judge s) j es .allowed ≡ (j .allowed && all (allowed s) es)
   unfolding all judge allowed
   all-allowed j [] = sym (and-true (j .allowed))
   all-allowed j (e ∷ es) =

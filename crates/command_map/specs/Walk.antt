@@ -10,10 +10,11 @@ use Rattle.cbor.specs.declared.Item.the-variants.{Refused}
 use Rattle.cbor.specs.Cbor.{ifBytes, ifMap, repeat, pair, value}
 use Rattle.keys.specs.Keys.{twice}
 use Rattle.entries.specs.declared.Entry.{Entry}
-use Rattle.entries.specs.declared.Keys.{Keys}
-use Rattle.entries.specs.declared.Keys.the-variants.{Single, Double, Others}
-use Rattle.entries.specs.Entries.{entries, contents, hasKey, keysOf}
-use Rattle.entries.specs.Row.{kept}
+use Rattle.double_keys.specs.declared.Keys.{Keys}
+use Rattle.double_keys.specs.declared.Keys.the-variants.{Single, Double, Others}
+use Rattle.entries.specs.Entries.{entries, contents, hasKey}
+use Rattle.double_keys.specs.DoubleKeys.{keysOf}
+use Rattle.double_keys.specs.Row.{kept}
 use Rattle.command_map.specs.declared.Judged.{Judged}
 use Rattle.command_map.specs.declared.Fields.{Fields}
 use Rattle.command_map.specs.declared.Checked.{Checked}

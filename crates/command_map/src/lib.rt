@@ -2,8 +2,8 @@
 // walk.
 use cbor::Item;
 use cbor::Next;
+use double_keys::Keys;
 use entries::Entry;
-use entries::Keys;
 ghost use mathlib.Core.Path.{_≡_};
 ghost use Rattle.command_map.specs.CommandMap.{isName, valueItem, mapChecked};
 ghost use Rattle.command_map.specs.Walk.{firstBytes, firstMap, unallowed, withName, withKeys, withArgs, withRedirect, judge, Walked, commandOf};
@@ -134,7 +134,7 @@ fn with_args(s: &[u8], j: Judged, x: Item) -> Judged
     let Item::Map(n, at) = x else {
         return unallowed(j);
     };
-    with_keys(j, x, entries::judge_keys(s, 6, n, at))
+    with_keys(j, x, double_keys::judge_keys(s, 6, n, at))
 }
 
 // The judgement with a `redirect` entry of this value: a map.
@@ -202,7 +202,7 @@ fn read_fields(s: &[u8], n: u64, at: usize, starts: &mut [u16], stops: &mut [u16
             };
         };
         judged = judge(s, judged, e);
-        kept = entries::keep(starts, stops, kept, e);
+        kept = double_keys::keep(starts, stops, kept, e);
         p = next;
         left -= 1;
     }
@@ -244,12 +244,13 @@ fn command_of(j: Judged) -> Checked
     }
 }
 
-// The check of bytes that start with the head of a map of n entries.
+// The check of bytes that start with the head of a map of n entries. Of four keys that are allowed two are equal, so that no more than
+// three are searched.
 pub fn map_of(s: &[u8], n: u64, at: usize) -> Checked
     ensures { λ r. ⌜ r ≡ mapChecked (now (s .entry)) n at ⌝ }
 {
-    let mut starts = [0u16; 8];
-    let mut stops = [0u16; 8];
+    let mut starts = [0u16; 3];
+    let mut stops = [0u16; 3];
     let f = read_fields(s, n, at, &mut starts, &mut stops);
     let end = f.end;
     let Next::At(p) = end else {
@@ -269,7 +270,10 @@ pub fn map_of(s: &[u8], n: u64, at: usize) -> Checked
     else {
         return c;
     };
-    if entries::row_double(s, 7, n, at, &starts, &stops, f.kept) {
+    if 3 < n {
+        return Checked::DoubleKey;
+    }
+    if double_keys::row_double(s, 7, n, at, &starts, &stops, f.kept) {
         return Checked::DoubleKey;
     }
     c

@@ -2,5 +2,4 @@
 pub mod Bools
 pub mod Walk
 pub mod Folds
-pub mod RowLaws
 pub mod Shift

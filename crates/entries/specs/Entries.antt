@@ -8,11 +8,9 @@ use Rattle.cbor.specs.declared.Item.the-variants.{Unsigned, Negative, Bytes, Si
 use Rattle.cbor.specs.declared.Next.{Next}
 use Rattle.cbor.specs.declared.Next.the-variants.{At, Bad}
 use Rattle.cbor.specs.Cbor.{Reader, itemAt, value}
-use Rattle.keys.specs.Keys.{part, equal, among, twice}
+use Rattle.keys.specs.Keys.{part, equal, among}
 use Rattle.entries.specs.declared.Entry.{Entry}
 use Rattle.entries.specs.declared.Entry.the-variants.{Keyed, Other, Broken}
-use Rattle.entries.specs.declared.Keys.{Keys}
-use Rattle.entries.specs.declared.Keys.the-variants.{Single, Double, Others}
 
 -- whether each, or one, of a list passes a test
 unfoldable pub all : {A : Type 0} → (A → Bool) → List A → Bool
@@ -90,7 +88,3 @@ module _ (s : List ℕ) where
   unfoldable pub find : List ℕ → List Entry → Entry
   find key [] = Broken
   find key (e ∷ es) = cond (hasKey key e) e (find key es)
-
-  -- the keys of a map: not all byte strings, or all of them, and then one twice or each once
-  unfoldable pub keysOf : List Entry → Keys
-  keysOf es = cond (all isKeyed es) (cond (twice (contents es)) Double Single) Others

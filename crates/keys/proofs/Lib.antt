@@ -1,3 +1,3 @@
 -- What the proofs of several functions use.
 pub mod Equal
-mod Row
+pub mod Before

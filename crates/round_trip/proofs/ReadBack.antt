@@ -12,9 +12,10 @@ use Rattle.cbor.specs.Cbor.{itemAt, whole}
 use Rattle.cbor.proofs.Shift.{shiftedItem, item-shift}
 use Rattle.entries.specs.declared.Entry.{Entry}
 use Rattle.entries.specs.declared.Entry.the-variants.{Keyed, Other, Broken}
-use Rattle.entries.specs.declared.Keys.{Keys}
-use Rattle.entries.specs.declared.Keys.the-variants.{Single, Double, Others}
-use Rattle.entries.specs.Entries.{entries, find, keysOf}
+use Rattle.double_keys.specs.declared.Keys.{Keys}
+use Rattle.double_keys.specs.declared.Keys.the-variants.{Single, Double, Others}
+use Rattle.entries.specs.Entries.{entries, find}
+use Rattle.double_keys.specs.DoubleKeys.{keysOf}
 use Rattle.entries.proofs.Shift.{shiftedEntry, entries-shift, find-shift, part-shift}
 use Rattle.command_map.specs.declared.Checked.the-variants.{Command, NotItem, NotCommand}
 use Rattle.command.specs.declared.Place.{Place}

@@ -18,8 +18,9 @@ use Rattle.cbor.proofs.HeadLaws.{string-at, map-at}
 use Rattle.keys.specs.Keys.{part, equal, among, twice}
 use Rattle.entries.specs.declared.Entry.{Entry}
 use Rattle.entries.specs.declared.Entry.the-variants.{Keyed}
-use Rattle.entries.specs.declared.Keys.the-variants.{Single, Double, Others}
-use Rattle.entries.specs.Entries.{all, any, isKeyed, entryAt, entries, contents, find, keysOf}
+use Rattle.double_keys.specs.declared.Keys.the-variants.{Single, Double, Others}
+use Rattle.entries.specs.Entries.{all, any, isKeyed, entryAt, entries, contents, find}
+use Rattle.double_keys.specs.DoubleKeys.{keysOf}
 use Rattle.entries.proofs.Shift.{entries-shift, part-shift, all-keyed-shift, twice-shift}
 use Rattle.command_map.specs.declared.Checked.{Checked}
 use Rattle.command_map.specs.declared.Checked.the-variants.{Command, NotItem, NotCommand, DoubleKey}

@@ -1,6 +1,6 @@
 // A command from its parts: a name, and the encoded pairs of its arguments with their number.
 use cbor::Next;
-use entries::Keys;
+use double_keys::Keys;
 ghost use mathlib.Core.Path.{_≡_};
 ghost use Prim.Native.Nat.{_≤_};
 ghost use lib.ListN.{length};
@@ -25,7 +25,7 @@ pub(crate) fn parts_number(name: &[u8], pairs: &[u8], count: u64) -> u32
     if 64 < name.len() {
         return 25;
     }
-    match entries::judge_keys(pairs, 6, count, 0) {
+    match double_keys::judge_keys(pairs, 6, count, 0) {
         Keys::Single => 0,
         Keys::Double => 26,
         Keys::Others => 25,

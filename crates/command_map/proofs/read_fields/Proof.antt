@@ -7,7 +7,7 @@ use native.Mathlib.Omega.{arith}
 use borrow.Author.Needs.{needs}
 use Rattle.cbor.specs.declared.Next.{Next}
 use Rattle.entries.specs.Entries.{entries}
-use Rattle.entries.proofs.RowLaws.{Walking, Over, begun, finished, broken, turn}
+use Rattle.double_keys.proofs.RowLaws.{Walking, Over, begun, finished, broken, turn}
 use Rattle.command_map.specs.declared.Judged.{Judged}
 use Rattle.command_map.specs.Walk.{noneJudged, judge, Walked}
 use Rattle.command_map.proofs.read_fields.Statement.{statement}

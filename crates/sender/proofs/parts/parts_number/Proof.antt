@@ -9,9 +9,10 @@ use lib.ListN.{length}
 use borrow.Author.Needs.{needs}
 use borrow.Author.Tests.{eq-eqb, ne-eqb, le-leb, lt-leb}
 use Rattle.cbor.specs.declared.Next.the-variants.{At, Bad}
-use Rattle.entries.specs.declared.Keys.{Keys}
-use Rattle.entries.specs.declared.Keys.the-variants.{Single, Double, Others}
-use Rattle.entries.specs.Entries.{entries, keysOf}
+use Rattle.double_keys.specs.declared.Keys.{Keys}
+use Rattle.double_keys.specs.declared.Keys.the-variants.{Single, Double, Others}
+use Rattle.entries.specs.Entries.{entries}
+use Rattle.double_keys.specs.DoubleKeys.{keysOf}
 use Rattle.command_map.specs.declared.Checked.the-variants.{Command}
 use Rattle.command.specs.Command.{checked, numberOf}
 use Rattle.sender.specs.Parts.{commandBytes, nameStart, nameStop, firstPair, pairsEnd, nameFits, byKeys, partsChecked}
@@ -21,7 +22,7 @@ use Rattle.sender.proofs.parts.parts_number.Tie as tie
 use Rattle.sender.proofs.parts.parts_number.Reads as reads
 use Rattle.sender.proofs.parts.parts_number.Lts as lts
 use Rattle.cbor.proofs.read_map.Reads as read-map-reads
-use Rattle.entries.proofs.judge_keys.Reads as judge-keys-reads
+use Rattle.double_keys.proofs.judge_keys.Reads as judge-keys-reads
 
 -- the number, case by case
 module _ (name pairs : List ℕ) (count : ℕ) (hn : length name < 2 ^ 64) (hc : count < 2 ^ 64) where

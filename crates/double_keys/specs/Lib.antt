@@ -1,0 +1,4 @@
+pub mod DoubleKeys
+pub mod Row
+pub mod Search
+pub mod Blocks
