@@ -1,8 +1,8 @@
 //! Makes commands to compare two readers on: good ones, ones with a known
 //! fault, and damaged ones; sessions of a channel, as lines of `replay`, and
-//! the same lines damaged; captures of the line; requests to be sent; and
-//! commands for a board. The same seed and index give the same ones on every
-//! machine.
+//! the same lines damaged; captures of the line; requests to be sent; commands
+//! for a board; and commands for the search for double keys. The same seed and
+//! index give the same ones on every machine.
 
 mod boards;
 mod captures;
@@ -13,6 +13,8 @@ mod faults;
 pub mod fixed;
 mod garbled;
 mod item;
+mod key_sets;
+mod keys;
 mod random;
 mod refused;
 mod sends;
@@ -23,6 +25,7 @@ pub use boards::{board_capture, board_step, BoardStep};
 pub use captures::capture;
 pub use commands::case;
 pub use garbled::garbled;
+pub use keys::key_command;
 pub use random::Random;
 pub use sends::{sending, Sending, FAULTS};
 pub use sessions::session;
