@@ -65,15 +65,51 @@ declare -A wrong_layouts=(
     [length_of_17]='s/head\[1\]\.into()/head[1].min(16).into()/'
     [unused_is_0]='s/let on = match/if unused.iter().any(|byte| *byte != 0) { return None; } &/'
 )
+# Wrong searches for double keys. `seen_as` makes one that sees $1 in place of each
+# key of `args`, which is made of its `content`, its place `at` and the `length` of it.
+seen_as() {
+    printf 's/has_double_key(command\.arguments())/has_double_key(\&command.arguments().iter().map(|(key, _)| match key { %s })' \
+        "Value::Bytes(content) => { let (at, length) = (content.as_ptr() as usize - bytes.as_ptr() as usize, content.len()); ($1, Value::Null) } _ => (key.clone(), Value::Null)"
+    printf '.collect::<Vec<_>>())/'
+}
+with_length() { printf 'Value::Array(vec![Value::Unsigned(length as u64), %s])' "$1"; }
+searched='s/has_double_key(command\.arguments())/'
+declare -A wrong_searches=(
+    [length_alone]=$(seen_as 'Value::Unsigned(length as u64)')
+    [first_byte_alone]=$(seen_as 'Value::Bytes(\&content[..length.min(1)])')
+    [first_8_bytes_alone]=$(seen_as 'Value::Bytes(\&content[..length.min(8)])')
+    [last_byte_left_out]=$(seen_as "$(with_length 'Value::Bytes(\&content[..length.max(1) - 1])')")
+    [head_in_key]=$(seen_as 'Value::Bytes(\&bytes[at - 1..at + length])')
+    [number_and_length_alone]=$(seen_as "$(with_length 'Value::Unsigned(content.iter().fold(0, |sum, byte| (sum * 16777619 + u64::from(*byte)) % 4294967296))')")
+    [neighbours_alone]='s/^ *keys\.sort_unstable();$//'
+    [beginning_is_equal]='s/pair\[0\] == pair\[1\]/matches!((pair[0], pair[1]), (Value::Bytes(one), Value::Bytes(other)) if other.starts_with(one))/'
+    [first_key_left_out]="${searched}has_double_key(command.arguments().get(1..).unwrap_or_default())/"
+    [last_key_left_out]="${searched}has_double_key(command.arguments().split_last().map_or(\&[][..], |(_, keys)| keys))/"
+    [keys_from_the_17th_left_out]="${searched}has_double_key(command.arguments().chunks(16).next().unwrap_or_default())/"
+    [keys_from_the_513th_left_out]="${searched}has_double_key(command.arguments().chunks(512).next().unwrap_or_default())/"
+    [entries_from_the_9th_left_out]='s/for entry in entries {/for entry in entries.into_iter().take(8) {/'
+)
+# Wrong searches that differ on long commands alone.
+declare -A wrong_far_searches=(
+    [within_1024]="${searched}command.arguments().windows(1024.min(command.arguments().len()).max(1)).any(has_double_key)/"
+    [keys_from_the_1025th_left_out]="${searched}has_double_key(command.arguments().chunks(1024).next().unwrap_or_default())/"
+    [blocks_by_themselves]="${searched}command.arguments().chunks(1024).any(has_double_key)/"
+    [keys_past_65535_left_out]=$(seen_as 'if at + length > 65535 { Value::Unsigned(at as u64) } else { key.clone() }')
+    [places_cut]=$(seen_as 'Value::Bytes(\&bytes[at % 65536..][..length.min(bytes.len() - at % 65536)])')
+    [lengths_cut]=$(seen_as 'Value::Bytes(\&content[..length % 65536])')
+)
 
 (
     make_wrong_lines wrong_senders sender.rs
     make_wrong_lines wrong_boards board.rs
     make_wrong_lines wrong_layouts board.rs
+    make_wrong_lines wrong_searches command.rs
+    make_wrong_lines wrong_far_searches command.rs
 ) &
 wrong_copies=$!
 children+=("$wrong_copies")
-wrongs=$((wrongs + ${#wrong_senders[@]} + ${#wrong_boards[@]} + ${#wrong_layouts[@]}))
+wrongs=$((wrongs + ${#wrong_senders[@]} + ${#wrong_boards[@]} + ${#wrong_layouts[@]} \
+    + ${#wrong_searches[@]} + ${#wrong_far_searches[@]}))
 
 "$out/sessions" traces
 "$out/sessions" check 1 "$sessions"
