@@ -93,6 +93,11 @@ pub extern "C" fn generated_new(seed: u64, index: u64) -> Box<Case> {
 }
 
 #[no_mangle]
+pub extern "C" fn generated_keys_new(seed: u64, index: u64) -> Box<Case> {
+    Box::new(generate::key_command(seed, index))
+}
+
+#[no_mangle]
 pub extern "C" fn generated_free(generated: Box<Case>) {
     drop(generated);
 }

@@ -54,6 +54,7 @@ build_desk_rust "$out"
 build_desk_c "$out"
 "$out/desk_rust" 5000 3
 "$out/desk_c" 5000 4
+"$out/desk_c" 2000 5 keys
 build_desk_rust "$wrong"
 build_desk_c "$wrong"
 must_fail '^desk (Rust): difference at' "$wrong/desk_rust" 5000 3

@@ -1,11 +1,13 @@
 /* Compares the calls of the command archive, as the desk tool makes them, with
  * the second implementation.
  *
- *     desk COMMANDS SEED */
+ *     desk COMMANDS SEED         on commands of every kind
+ *     desk COMMANDS SEED keys    on commands made for the search for double keys */
 
 #include <inttypes.h>
 #include <stdio.h>
 #include <stdlib.h>
+#include <string.h>
 
 #include "command.h"
 #include "second.h"
@@ -40,11 +42,13 @@ static struct answers second_answers(const uint8_t *command, size_t length,
     return answers;
 }
 
+typedef struct generated *generator(uint64_t seed, uint64_t index);
+
 /* Whether both answer alike. Marks the number of each lookup in `met`. */
-static int alike(uint64_t seed, uint64_t index, int met[32])
+static int alike(generator *make, uint64_t seed, uint64_t index, int met[32])
 {
     size_t length, key_length;
-    struct generated *generated = generated_new(seed, index);
+    struct generated *generated = make(seed, index);
     const uint8_t *command = generated_command(generated, &length);
     const uint8_t *key = generated_key(generated, &key_length);
     struct answers one = archive_answers(command, length, key, key_length);
@@ -60,9 +64,11 @@ int main(int argc, char **argv)
     static const int numbers[] = {0, 6, 7, 8, 24, 25, 26};
     uint64_t commands = argc > 1 ? strtoull(argv[1], NULL, 10) : 0;
     uint64_t seed = argc > 2 ? strtoull(argv[2], NULL, 10) : 0;
+    int keys = argc > 3 && strcmp(argv[3], "keys") == 0;
+    generator *make = keys ? generated_keys_new : generated_new;
     int met[32] = {0};
     for (uint64_t index = 0; index < commands; index++)
-        if (!alike(seed, index, met)) {
+        if (!alike(make, seed, index, met)) {
             printf("desk (C): difference at seed %" PRIu64 ", index %" PRIu64 "\n", seed, index);
             return 1;
         }

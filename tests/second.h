@@ -22,6 +22,8 @@ struct generated;
 
 /* The command and key of a seed and an index, to be freed. */
 struct generated *generated_new(uint64_t seed, uint64_t index);
+/* The same of the commands made for the search for double keys. */
+struct generated *generated_keys_new(uint64_t seed, uint64_t index);
 void generated_free(struct generated *generated);
 const uint8_t *generated_command(const struct generated *generated, size_t *length);
 const uint8_t *generated_key(const struct generated *generated, size_t *length);
