@@ -65,8 +65,8 @@ declare -A wrong_layouts=(
     [length_of_17]='s/head\[1\]\.into()/head[1].min(16).into()/'
     [unused_is_0]='s/let on = match/if unused.iter().any(|byte| *byte != 0) { return None; } &/'
 )
-# Wrong searches for double keys. `seen_as` makes one that sees $1 in place of each
-# key of `args`, which is made of its `content`, its place `at` and the `length` of it.
+# Wrong searches for double keys. `seen_as` makes one that sees $1 in place of each key
+# of `args`; $1 may name the key's `content`, its `length`, and its place `at`.
 seen_as() {
     printf 's/has_double_key(command\.arguments())/has_double_key(\&command.arguments().iter().map(|(key, _)| match key { %s })' \
         "Value::Bytes(content) => { let (at, length) = (content.as_ptr() as usize - bytes.as_ptr() as usize, content.len()); ($1, Value::Null) } _ => (key.clone(), Value::Null)"
@@ -91,7 +91,7 @@ declare -A wrong_searches=(
 )
 # Wrong searches that differ on long commands alone.
 declare -A wrong_far_searches=(
-    [within_1024]="${searched}command.arguments().windows(1024.min(command.arguments().len()).max(1)).any(has_double_key)/"
+    [within_1024]='s/pair\[0\] == pair\[1\]/& \&\& (pair[0] as *const Value as usize).abs_diff(pair[1] as *const Value as usize) < 1024 * size_of::<(Value, Value)>()/'
     [keys_from_the_1025th_left_out]="${searched}has_double_key(command.arguments().chunks(1024).next().unwrap_or_default())/"
     [blocks_by_themselves]="${searched}command.arguments().chunks(1024).any(has_double_key)/"
     [keys_past_65535_left_out]=$(seen_as 'if at + length > 65535 { Value::Unsigned(at as u64) } else { key.clone() }')
