@@ -218,16 +218,19 @@ fn integers() -> Vec<u8> {
     command(26, &[&most[..], &key(25), &[0x19, 0, 49]].concat())
 }
 
-/// As deep as the check goes: more keys than its row of places holds, so that
-/// it reads the entries again, and a value of six levels.
-fn deep() -> Vec<u8> {
-    let mut entries = b"\x40\x81\x81\x81\x81\x81\x80".to_vec();
-    for byte in 0..=255 {
-        entries.extend([0x41, byte, 0]);
-        entries.extend([0x42, 1, byte, 0]);
+/// As deep as the check goes: as many of the shortest keys as asked for, in no
+/// order, and a value of six levels.
+fn deep(keys: u16) -> Vec<u8> {
+    let mut command = b"\xa2\x44name\x42on\x44args\xb9".to_vec();
+    command.extend(keys.to_be_bytes());
+    command.extend(b"\x40\x81\x81\x81\x81\x81\x80");
+    for place in 1..keys {
+        let number = (u32::from(place) * 233 % u32::from(keys - 1)) as u16;
+        match number.to_be_bytes() {
+            [0, low] => command.extend([0x41, low, 0]),
+            [high, low] => command.extend([0x42, high, low, 0]),
+        }
     }
-    let mut command = b"\xa2\x44name\x43set\x44args\xb9\x02\x01".to_vec();
-    command.extend(entries);
     command
 }
 
@@ -238,7 +241,8 @@ fn make(kind: &str, size: usize) -> Result<()> {
         "command16" => command(0, &[]),
         "command200" => strings(),
         "integers200" => integers(),
-        "deep" => deep(),
+        "deep513" => deep(513),
+        "deep571" => deep(571),
         _ => usage(),
     };
     let count = size / payload.len();
