@@ -115,6 +115,8 @@ impl Coverage {
         );
         self.edge(keys, LAST_PLACE, "65,535");
         self.edge(keys, LAST_PLACE + 1, "65,536");
+        let far = span(keys).len() > 100_000;
+        self.add_if(far, "keys over more than 100,000 bytes");
     }
 
     fn edge(&mut self, keys: &[Key], place: usize, text: &str) {
@@ -122,6 +124,10 @@ impl Coverage {
         self.add_if(starts, &format!("a key that starts at byte {text}"));
         let ends = keys.iter().any(|key| key.end() == place);
         self.add_if(ends, &format!("a key that ends at byte {text}"));
+        let start = keys.get(1_024).map(|key| key.at - key.head);
+        let behind = |start| keys.iter().any(|key| key.at == start + place);
+        let name = format!("a key {text} bytes behind the 1,025th");
+        self.add_if(start.is_some_and(behind), &name);
     }
 
     fn lengths(&mut self, keys: &[Key]) {

@@ -84,7 +84,7 @@ pub const MET: [&str; 43] = [
 ];
 
 /// What is in long commands alone, which are few.
-pub const FEW: [&str; 17] = [
+pub const FEW: [&str; 20] = [
     "0: a key past byte 65,535",
     "26: both of the double past byte 65,535",
     "26: one of the double past byte 65,535",
@@ -92,6 +92,9 @@ pub const FEW: [&str; 17] = [
     "a key that starts at byte 65,536",
     "a key that ends at byte 65,535",
     "a key that ends at byte 65,536",
+    "keys over more than 100,000 bytes",
+    "a key 65,535 bytes behind the 1,025th",
+    "a key 65,536 bytes behind the 1,025th",
     "0: a key longer than 65,535 bytes",
     "0: two such keys of one length",
     "0: such a key begins another",

@@ -33,14 +33,14 @@ pub fn key_command(seed: u64, index: u64) -> Case {
     let start = Random::new(seed ^ 0xe4).next() ^ Random::new(!index).next();
     let random = &mut Random::new(start);
     let plan = match index % 1000 {
-        0..=2 => far(random),
-        3..=6 => long_keys(random),
-        7 => wide_block(random),
-        8 => large(random, 1_027, 3_000),
-        9 => large(random, 1_100, 1_600),
-        10..=14 => large(random, 1_022, 1_026),
-        15 => large(random, 572, 1_021),
-        16..=35 => shortest(random),
+        0..=3 => far(random),
+        4..=6 => long_keys(random),
+        7 | 8 => wide_block(random),
+        9 => large(random, 1_800, 3_000),
+        10 => large(random, 1_027, 1_800),
+        11..=15 => large(random, 1_022, 1_026),
+        16 => large(random, 572, 1_021),
+        17..=35 => shortest(random),
         36..=45 => ordinary(random, 301, 499),
         46..=105 => ordinary(random, 15, 18),
         106..=255 => ordinary(random, 17, 300),
@@ -101,9 +101,10 @@ fn marked(random: &mut Random) -> Plan {
 
 /// Keys on both sides of byte 65,535, or all but one behind it.
 fn far(random: &mut Random) -> Plan {
-    let (mut plan, length) = match random.percent(60) {
-        true => (dense(random), random.between(65_380, 65_480)),
-        false => (ordinary(random, 2, 40), random.between(65_400, 70_000)),
+    let (mut plan, length) = match random.below(10) {
+        0..=5 => (dense(random), random.between(65_380, 65_480)),
+        6..=7 => (ordinary(random, 2, 40), random.between(65_400, 70_000)),
+        _ => return several_long_values(random),
     };
     let place = random.below(plan.entries.len());
     let key = plan.entries[place].key.clone();
@@ -113,6 +114,17 @@ fn far(random: &mut Random) -> Plan {
         false => key.into_iter().cycle().take(length).collect(),
     };
     plan.entries[0].value = Item::Bytes(content);
+    plan
+}
+
+/// Three values, between which there are keys or not, take most of the command.
+fn several_long_values(random: &mut Random) -> Plan {
+    let mut plan = dense(random);
+    for _ in 0..3 {
+        let place = random.below(plan.entries.len());
+        let length = random.between(20_000, 45_000);
+        plan.entries[place].value = Item::Bytes(vec![7; length]);
+    }
     plan
 }
 
@@ -160,22 +172,31 @@ fn double_long(entries: &mut [Entry], random: &mut Random) {
     }
 }
 
-/// About 1,024 keys whose places lie more than 65,535 bytes apart.
+/// About 1,024 keys whose places lie more than 65,535 bytes apart: each value is
+/// long, or one is very long.
 fn wide_block(random: &mut Random) -> Plan {
+    if random.percent(80) {
+        return one_long_value(random);
+    }
     let count = random.between(1_000, 1_100);
     let length = random.between(62, 100);
-    let one = random.percent(40);
-    let place = random.below(count);
     let keys = key_sets::numbered(random, count);
-    let mut plan = planned(keys, 0, random);
-    for (number, entry) in plan.entries.iter_mut().enumerate() {
-        entry.value = match one {
-            true if number == place => Item::Bytes(vec![7; random.between(65_350, 65_700)]),
-            true => one_byte(random),
-            false => Item::Bytes(vec![7; length]),
-        };
+    let mut plan = bare(keys, 0, random);
+    for entry in &mut plan.entries {
+        entry.value = Item::Bytes(vec![7; length]);
     }
-    put_doubles(&mut plan.entries, random);
+    plan
+}
+
+/// The keys behind the long value are then close together, and some lie about
+/// 65,535 bytes behind the first or the 1,025th.
+fn one_long_value(random: &mut Random) -> Plan {
+    let count = random.between(1_070, 1_110);
+    let keys = key_sets::shortest(count);
+    let mut plan = bare(keys, 0, random);
+    let place = random.pick(&[0, 1_023, 1_024, 1_024, 1_025, 1_026]);
+    let length = random.between(65_400, 65_520);
+    plan.entries[place].value = Item::Bytes(vec![7; length]);
     plan
 }
 
