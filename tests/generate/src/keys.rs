@@ -157,7 +157,7 @@ fn long_keys(random: &mut Random) -> Plan {
 /// At times a long key twice in place of two long keys, at times a short one.
 fn double_long(entries: &mut [Entry], random: &mut Random) {
     let is_long = |entry: &&mut Entry| entry.key.len() > LAST_PLACE;
-    if random.percent(30) {
+    if random.percent(20) {
         let mut long = entries.iter_mut().filter(is_long);
         if let (Some(one), Some(other)) = (long.next(), long.next()) {
             other.key.clone_from(&one.key);
@@ -165,7 +165,7 @@ fn double_long(entries: &mut [Entry], random: &mut Random) {
         return;
     }
     let mut short: Vec<&mut Entry> = entries.iter_mut().filter(|entry| !is_long(entry)).collect();
-    if short.len() > 1 && random.percent(30) {
+    if short.len() > 1 && random.percent(25) {
         let last = short.len() - 1;
         let key = short[0].key.clone();
         short[last].key = key;
