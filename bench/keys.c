@@ -6,9 +6,12 @@
  *                   length, the answer and what it is
  *     keys long     the times of the check on long commands with distinct keys,
  *                   beside the second implementation's
+ *     keys stack    the bytes of stack that the check needs at most, over the rows
+ *                   and a command of 16,384 bytes
  *
  * Row 0 is the ordinary command. */
 
+#include <pthread.h>
 #include <signal.h>
 #include <stdint.h>
 #include <stdio.h>
@@ -127,6 +130,11 @@ static size_t mixed(size_t i, size_t n)
 
 #define PRIME 16777619u
 
+/* How many marks the search has for more than 16 keys. For fewer it has 64, which
+ * divide the larger number that the longer keys below share. */
+#define MARKS 1536u
+#define MANY_MARKS (MARKS * 128)
+
 /* The number of a key, of which the search makes its marks. */
 static uint32_t number_of(const uint8_t *key, size_t size)
 {
@@ -151,7 +159,7 @@ static void marked_key(uint8_t *key, size_t size, uint32_t marks, uint32_t *from
     memset(key, 'k', size);
     do {
         put_number(key, size, (*from)++);
-        last = (0u - number_of(key, size - 1) * PRIME) % marks;
+        last = (marks - number_of(key, size - 1) * PRIME % marks) % marks;
     } while (last > 255);
     key[size - 1] = (uint8_t)last;
 }
@@ -209,6 +217,11 @@ static void with_no_bytes(void)
     short_keys(mixed, NO_BYTES);
 }
 
+static void in_order_with_no_bytes(void)
+{
+    short_keys(up, NO_BYTES);
+}
+
 /* As in no order, but the last key is that of another entry. */
 static void doubled(size_t other)
 {
@@ -229,7 +242,7 @@ static void last_doubled(void)
 }
 
 /* Key `i` of 571: the empty one, the 256 of one byte, and 314 of two bytes with
- * the marks of these, modulo 2,048 and so modulo 1,024. */
+ * the marks of these. */
 static void paired_entry(size_t i)
 {
     uint8_t key[2];
@@ -239,7 +252,7 @@ static void paired_entry(size_t i)
     }
     size_t mark = (i - 257) % 256, turn = (i - 257) / 256;
     for (unsigned first = 1; first < 256; first++) {
-        size_t last = (mark + 2048u * 256 - PRIME % 2048 * first) % 2048;
+        size_t last = (mark + MARKS - PRIME * first % MARKS) % MARKS;
         key[0] = (uint8_t)first;
         key[1] = (uint8_t)last;
         if (last < 256 && turn-- == 0)
@@ -308,32 +321,32 @@ static void marked_keys(size_t size, size_t count, uint32_t marks)
 
 static void marked_3(void)
 {
-    marked_keys(3, 405, 2048);
+    marked_keys(3, 405, MARKS);
 }
 
 static void marked_4(void)
 {
-    marked_keys(4, 337, 65536);
+    marked_keys(4, 337, MANY_MARKS);
 }
 
 static void marked_8(void)
 {
-    marked_keys(8, 202, 65536);
+    marked_keys(8, 202, MANY_MARKS);
 }
 
 static void marked_28(void)
 {
-    marked_keys(28, 65, 65536);
+    marked_keys(28, 65, MANY_MARKS);
 }
 
 static void marked_115(void)
 {
-    marked_keys(115, 17, 65536);
+    marked_keys(115, 17, MANY_MARKS);
 }
 
 static void marked_123(void)
 {
-    marked_keys(123, 16, 65536);
+    marked_keys(123, 16, MANY_MARKS);
 }
 
 /* Two keys that differ in their last byte. */
@@ -530,6 +543,7 @@ static const struct row rows[] = {
     {"571 keys, from the middle", 0, from_the_middle},
     {"571 keys, in no order", 0, in_no_order},
     {"571 keys, in no order, values of no bytes", 0, with_no_bytes},
+    {"571 keys, in order, values of no bytes", 0, in_order_with_no_bytes},
     {"571 keys, the last as the first", 26, first_doubled},
     {"571 keys, the last as the one before", 26, last_doubled},
     {"571 keys, each with another's mark, in order", 0, paired_in_order},
@@ -686,10 +700,56 @@ static int long_rows(void)
     return ended == 1;
 }
 
+/* ---- the stack ---- */
+
+#define STACK (1u << 20)
+#define PAINT 0xa5
+static uint8_t stack[STACK] __attribute__((aligned(4096)));
+
+static void *checked(void *skip)
+{
+    if (skip == NULL)
+        command_check(bytes, length);
+    return skip;
+}
+
+/* How much of a painted stack a thread changes that checks the command, or that
+ * does not. */
+static size_t touched(void *skip)
+{
+    pthread_t thread;
+    pthread_attr_t attributes;
+    size_t unchanged = 0;
+    memset(stack, PAINT, STACK);
+    if (pthread_attr_init(&attributes) != 0 || pthread_attr_setstack(&attributes, stack, STACK) != 0 ||
+        pthread_create(&thread, &attributes, checked, skip) != 0 || pthread_join(thread, NULL) != 0)
+        exit(1);
+    while (unchanged < STACK && stack[unchanged] == PAINT)
+        unchanged++;
+    return STACK - unchanged;
+}
+
+static int stack_needed(void)
+{
+    size_t without = touched(stack), most = 0;
+    for (size_t row = 0; row <= ROWS; row++) {
+        if (row < ROWS)
+            rows[row].make();
+        else
+            long_command(16384);
+        size_t with = touched(NULL);
+        if (most < with)
+            most = with;
+    }
+    return printf("stack of the check at most: %zu bytes\n", most - without) < 0;
+}
+
 int main(int argc, char **argv)
 {
     if (argc == 1)
         return printf("%zu\n", ROWS) < 0;
+    if (strcmp(argv[1], "stack") == 0)
+        return stack_needed();
     if (strcmp(argv[1], "long") == 0)
         return long_rows();
     return one_row(strtoul(argv[1], NULL, 10));

@@ -162,12 +162,7 @@ impl Coverage {
     }
 
     fn marks(&mut self, keys: &[Key]) {
-        for (marks, text) in [
-            (64, "64"),
-            (1_024, "1,024"),
-            (2_048, "2,048"),
-            (65_536, "65,536"),
-        ] {
+        for (marks, text) in [(64, "64"), (1_536, "1,536"), (65_536, "65,536")] {
             let met = near::share_marks(keys, marks);
             self.add_if(met, &format!("0: each shares its mark modulo {text}"));
         }

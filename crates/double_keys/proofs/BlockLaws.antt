@@ -28,9 +28,8 @@ use Rattle.entries.proofs.Walk.{ends, goes, twice-more}
 use Rattle.entries.proofs.Shift.{entries-shift, contents-shift}
 use Rattle.double_keys.specs.declared.blocks.Block.{Block}
 use Rattle.double_keys.specs.Row.{kept, roomFor, keptCount, keptStarts, keptStops, Keeps}
-use Rattle.double_keys.specs.Search.{Places, Indexes, Searched}
-use Rattle.double_keys.specs.Blocks.{Counts, InOrder, entryAmong, meet, blockDouble, Blocked}
-use Rattle.double_keys.proofs.KeyLists.{kept-single}
+use Rattle.double_keys.specs.Search.{Places}
+use Rattle.double_keys.specs.Blocks.{entryAmong, meet, blockDouble, Blocked}
 use Rattle.double_keys.proofs.RowLaws.{Walking, Over, begun, turn}
 
 -- An entry that was read lies in s: its key starts before it stops, and neither that nor the position after the entry is past the end.
@@ -202,25 +201,6 @@ module _ {s : List ℕ} {levels n : ℕ} {starts₀ stops₀ starts stops : List
       before = next-within s levels p read after at;
       fewer = omega (arith, w .fewer);
     }
-
--- What the search shows where the row lists all the indexes below n.
-module _ {n : ℕ} {row₀ row : List ℕ} (c : Counts n row₀ row) where
-  pub all-listed : n ≤ length row → Indexes n row n
-  all-listed h = record { room = h; places = λ t l. rw (c .each t l) l; rising = λ t u l k. rw (c .each t (omega arith), c .each u k) l }
-
-  module _ (s starts stops : List ℕ) {row′ : List ℕ} (p : Places s starts stops n) (x : Searched s starts stops n row row′ n false) where
-    pub in-order : n ≤ length row → n ≤ 65536 → InOrder s starts stops n row′
-    in-order h m = record {
-      in-s = p;
-      room = omega (arith, x .long);
-      few = m;
-      places = x .places;
-      falls = x .single refl .falls;
-      all = λ y f t l. rw (c .each t l) at (x .single refl .all y f t l);
-    }
-
-    pub none-twice : twice (kept s starts stops n) ≡ false
-    none-twice = kept-single s starts stops n (p .0) (p .1) (λ t u l h. rw (c .each t (omega arith), c .each u h) at (x .single refl .apart t u l h))
 
 -- What stands behind a prefix: the entries of p ++ t from m + q on, where p has m bytes, have the keys of those of t from q on.
 behind : (p t : List ℕ) {s : List ℕ} {m : ℕ} → p ++ t ≡ s → length p ≡ m → (levels n q : ℕ) → contents s (entries s levels n (m + q)) ≡ contents t (entries t levels n q)

@@ -1,18 +1,19 @@
--- The search among the keys that share their marks answers for all the keys.
+-- The search among the keys that share their marks answers for all the keys, and so does the search among all of them.
 -- Assumes nothing.
 use mathlib.Core.Path.{_≡_, refl, sym, _∙_}
 use mathlib.Core.Bool.{Bool, true, false}
 use mathlib.Core.Logic.{_⊎_, inl, inr}
 use mathlib.Core.List.{List}
-use Prim.Native.Nat.{ℕ, _<_}
+use Prim.Native.Nat.{ℕ, _≤_, _<_}
 use native.Mathlib.Omega.{arith}
-use lib.ListN.{getD}
+use lib.ListN.{length, getD}
 use lib.Dec.{ltb}
 use borrow.Author.Tests.{ltb-true, ltb-false}
 use Rattle.keys.specs.Keys.{equal, twice}
 use Rattle.keys.proofs.Equal.{equal-sym}
 use Rattle.double_keys.specs.Row.{kept}
-use Rattle.double_keys.specs.Search.{keyOf, Places, Marked, Indexes, Listed, Lists, Ordered, Searched}
+use Rattle.double_keys.specs.Search.{keyOf, Places, Marked, Indexes, Counts, Listed, Lists, Ordered, Searched}
+use Rattle.double_keys.specs.Blocks.{InOrder}
 use Rattle.double_keys.proofs.KeyLists.{kept-single}
 
 -- of two indexes listed, the lesser is listed first
@@ -50,3 +51,26 @@ module _ (s starts stops : List ℕ) (n : ℕ) (counts row row′ row″ : List 
   pub answers : Places s starts stops n → (r : Bool) → Searched s starts stops n row′ row″ m r → r ≡ twice (kept s starts stops n)
   answers p true x = sym (x .double refl)
   answers p false x = sym (single (x .single refl) p)
+
+-- What the search shows where the row lists all the indexes below n.
+module _ {n : ℕ} {row₀ row : List ℕ} (c : Counts n row₀ row) where
+  pub all-listed : n ≤ length row → Indexes n row n
+  all-listed h = record { room = h; places = λ t l. rw (c .each t l) l; rising = λ t u l k. rw (c .each t (omega arith), c .each u k) l }
+
+  module _ (s starts stops : List ℕ) {row′ : List ℕ} (p : Places s starts stops n) (x : Searched s starts stops n row row′ n false) where
+    pub in-order : n ≤ length row → n ≤ 65536 → InOrder s starts stops n row′
+    in-order h m = record {
+      in-s = p;
+      room = omega (arith, x .long);
+      few = m;
+      places = x .places;
+      falls = x .single refl .falls;
+      all = λ y f t l. rw (c .each t l) at (x .single refl .all y f t l);
+    }
+
+    pub none-twice : twice (kept s starts stops n) ≡ false
+    none-twice = kept-single s starts stops n (p .0) (p .1) (λ t u l h. rw (c .each t (omega arith), c .each u h) at (x .single refl .apart t u l h))
+
+  pub all-answer : (s starts stops : List ℕ) {row′ : List ℕ} → Places s starts stops n → (r : Bool) → Searched s starts stops n row row′ n r → r ≡ twice (kept s starts stops n)
+  all-answer s starts stops p true x = sym (x .double refl)
+  all-answer s starts stops p false x = sym (none-twice s starts stops p x)

@@ -13,11 +13,6 @@ use Rattle.double_keys.specs.declared.blocks.Block.{Block}
 use Rattle.double_keys.specs.Row.{kept}
 use Rattle.double_keys.specs.Search.{keyOf, Places}
 
--- a row has the indexes below n, each in its place
-pub record Counts (n : ℕ) (row row′ : List ℕ) : Type 0 where
-  pub long : length row′ ≡ length row
-  pub each : (t : ℕ) → t < n → getD row′ t 0 ≡ t
-
 -- a row has n keys in order, the greatest first
 pub record InOrder (s starts stops : List ℕ) (n : ℕ) (row : List ℕ) : Type 0 where
   pub in-s : Places s starts stops n

@@ -32,6 +32,11 @@ pub record Indexes (n : ℕ) (row : List ℕ) (m : ℕ) : Type 0 where
   pub places : (t : ℕ) → t < m → getD row t 0 < n
   pub rising : (t u : ℕ) → t < u → u < m → getD row t 0 < getD row u 0
 
+-- a row has the indexes below n, each in its place
+pub record Counts (n : ℕ) (row row′ : List ℕ) : Type 0 where
+  pub long : length row′ ≡ length row
+  pub each : (t : ℕ) → t < n → getD row′ t 0 ≡ t
+
 -- an index of the first m places of a row at which v stands
 pub record Listed (row : List ℕ) (m v : ℕ) : Type 0 where
   pub index : ℕ

@@ -11,7 +11,7 @@ ghost use Rattle.keys.specs.Keys.{among, twice};
 ghost use Rattle.entries.specs.Entries.{entries, contents, again};
 ghost use Rattle.double_keys.specs.Row.{kept};
 ghost use Rattle.double_keys.specs.Search.{Places};
-ghost use Rattle.double_keys.specs.Blocks.{Blocked, InOrder, Counts, entryAmong, meet, blockDouble};
+ghost use Rattle.double_keys.specs.Blocks.{Blocked, InOrder, entryAmong, meet, blockDouble};
 
 // What is known once a block is taken: how many keys it has, how many entries follow it, and where.
 struct Block {
@@ -141,18 +141,6 @@ fn one_stands(
     false
 }
 
-// Puts all the indexes below n into a row.
-fn list_all(n: usize, row: &mut [u16])
-    requires { ⌜ (n ≤ length (now row)) × (n ≤ 65536) ⌝ }
-    ensures { λ r. ⌜ Counts n (now (row .entry)) (now (row .exit)) ⌝ }
-{
-    let mut i: usize = 0;
-    while i < n {
-        row[i] = i as u16;
-        i += 1;
-    }
-}
-
 // Whether a key of a block stands twice in it, or again after it.
 fn block_double(s: &[u8], levels: usize, b: Block, starts: &[u16], stops: &[u16]) -> bool
     requires { ⌜ Places (now s) (now starts) (now stops) (b .count) × (b .count ≤ 1024) ⌝ }
@@ -160,7 +148,7 @@ fn block_double(s: &[u8], levels: usize, b: Block, starts: &[u16], stops: &[u16]
 {
     let n = b.count;
     let mut row = [0u16; 1024];
-    list_all(n, &mut row);
+    crate::rows::list_all(n, &mut row);
     if crate::rows::search(s, starts, stops, n, &mut row, n) {
         return true;
     }

@@ -5,7 +5,7 @@ ghost use Prim.Native.Nat.{ℕ, _≤_, _<_};
 ghost use lib.ListN.{length, getD};
 ghost use Rattle.keys.specs.Keys.{twice};
 ghost use Rattle.double_keys.specs.Row.{kept, within, sound};
-ghost use Rattle.double_keys.specs.Search.{hash, keyOf, Places, Marked, Inserted, Indexes, Lists, Searched};
+ghost use Rattle.double_keys.specs.Search.{hash, keyOf, Places, Marked, Inserted, Indexes, Counts, Lists, Searched};
 
 // Whether each of n places starts before it stops, within `size` bytes.
 fn all_within(starts: &[u16], stops: &[u16], n: usize, size: usize) -> bool
@@ -104,6 +104,18 @@ fn list_shared(n: usize, counts: &[u8], row: &mut [u16]) -> usize
     m
 }
 
+// Puts all the indexes below n into a row.
+pub(crate) fn list_all(n: usize, row: &mut [u16])
+    requires { ⌜ (n ≤ length (now row)) × (n ≤ 65536) ⌝ }
+    ensures { λ r. ⌜ Counts n (now (row .entry)) (now (row .exit)) ⌝ }
+{
+    let mut i: usize = 0;
+    while i < n {
+        row[i] = i as u16;
+        i += 1;
+    }
+}
+
 // Puts v into a row of k places at an index; the places from there on move up by one.
 fn insert(row: &mut [u16], k: usize, at: usize, v: u16)
     requires { ⌜ (at ≤ k) × (k < length (now row)) ⌝ }
@@ -174,7 +186,8 @@ fn double_with(
     search(s, starts, stops, n, row, m)
 }
 
-// Whether a key stands twice among n keys.
+// Whether a key stands twice among n keys. Where there are few, most of them are alone with their mark; where there are many, marks would
+// cost more than they spare at worst, and all keys are put in order.
 pub(crate) fn double_key(s: &[u8], starts: &[u16], stops: &[u16], n: usize) -> bool
     requires { ⌜ Places (now s) (now starts) (now stops) n × (n ≤ 1024) ⌝ }
     ensures { λ r. ⌜ r ≡ twice (kept (now (s .entry)) (now (starts .entry)) (now (stops .entry)) n) ⌝ }
@@ -184,7 +197,11 @@ pub(crate) fn double_key(s: &[u8], starts: &[u16], stops: &[u16], n: usize) -> b
         let mut row = [0u16; 16];
         return double_with(s, starts, stops, n, &mut counts, &mut row);
     }
-    let mut counts = [0u8; 1536];
     let mut row = [0u16; 1024];
-    double_with(s, starts, stops, n, &mut counts, &mut row)
+    if n <= 300 {
+        let mut counts = [0u8; 1536];
+        return double_with(s, starts, stops, n, &mut counts, &mut row);
+    }
+    list_all(n, &mut row);
+    search(s, starts, stops, n, &mut row, n)
 }

@@ -109,7 +109,7 @@ pub fn marked(random: &mut Random, count: usize) -> Vec<Vec<u8>> {
     match random.below(6) {
         0 => one_number(random, count),
         _ => {
-            let marks = random.pick(&[64, 1_024, 2_048, 65_536]);
+            let marks = random.pick(&[64, 1_536, 65_536]);
             one_mark(random, count, marks)
         }
     }
@@ -124,7 +124,8 @@ fn one_mark(random: &mut Random, count: usize, marks: u32) -> Vec<Vec<u8>> {
     while keys.len() < count {
         let more = if mixed { random.below(3) } else { 0 };
         let mut key = random.bytes(length + more);
-        let last = wanted.wrapping_sub(number(&key).wrapping_mul(PRIME)) % marks;
+        let before = number(&key).wrapping_mul(PRIME) % marks;
+        let last = (wanted + marks - before) % marks;
         if let Ok(last) = u8::try_from(last) {
             key.push(last);
             keys.insert(key);

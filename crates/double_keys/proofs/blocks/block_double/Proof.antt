@@ -3,7 +3,7 @@
 use native.Mathlib.Omega.{arith}
 use borrow.Author.Needs.{needs}
 use Rattle.double_keys.specs.Blocks.{blockDouble}
-use Rattle.double_keys.proofs.BlockLaws.{all-listed, in-order, none-twice}
+use Rattle.double_keys.proofs.Shared.{all-listed, in-order, none-twice}
 use Rattle.double_keys.proofs.blocks.block_double.Statement.{statement}
 use Rattle.double_keys.proofs.blocks.block_double.Tie as tie
 

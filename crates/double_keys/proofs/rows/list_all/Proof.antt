@@ -9,9 +9,9 @@ use lib.ListN.{length, getD, set, length-set}
 use lib.Dec.{ltb}
 use lib.Seq.{getD-set-same, getD-set-other}
 use borrow.Author.Tests.{ltb-true, ltb-false}
-use Rattle.double_keys.specs.Blocks.{Counts}
-use Rattle.double_keys.proofs.blocks.list_all.Statement.{statement}
-use Rattle.double_keys.proofs.blocks.list_all.Tie as tie
+use Rattle.double_keys.specs.Search.{Counts}
+use Rattle.double_keys.proofs.rows.list_all.Statement.{statement}
+use Rattle.double_keys.proofs.rows.list_all.Tie as tie
 
 counts-more : (row₀ row : List ℕ) (i : ℕ) → Counts i row₀ row → i < length row → Counts (i + 1) row₀ (set row i i)
 counts-more row₀ row i c w = record { long = length-set row i i ∙ c .long; each = λ t h. by t h (ltb t i) refl }
