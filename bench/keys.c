@@ -288,6 +288,19 @@ static void paired_in_no_order(void)
     paired(mixed);
 }
 
+/* As many keys as the search still marks: two and two of one and of two bytes,
+ * which begin with 0, have one mark. An array fills the command. */
+static void paired_400(void)
+{
+    begin(3, 400);
+    for (size_t i = 0; i < 399; i++)
+        short_entry(i < 200 ? 1 + i : 57 + i, NO_BYTES);
+    put_key("key", 3);
+    put_head(4, 627);
+    for (unsigned i = 0; i < 627; i++)
+        put("\x40", 1);
+}
+
 /* Keys of three bytes, in no order. */
 static void three_bytes(void)
 {
@@ -550,6 +563,7 @@ static const struct row rows[] = {
     {"571 keys, each with another's mark, backward", 0, paired_backward},
     {"571 keys, each with another's mark, from both ends", 0, paired_from_the_ends},
     {"571 keys, each with another's mark, in no order", 0, paired_in_no_order},
+    {"400 keys, each with another's mark, in order, and an array", 0, paired_400},
     {"406 keys of 3 bytes, in no order", 0, three_bytes},
     {"405 keys of 3 bytes with one mark", 0, marked_3},
     {"337 keys of 4 bytes with one mark", 0, marked_4},

@@ -198,7 +198,7 @@ pub(crate) fn double_key(s: &[u8], starts: &[u16], stops: &[u16], n: usize) -> b
         return double_with(s, starts, stops, n, &mut counts, &mut row);
     }
     let mut row = [0u16; 1024];
-    if n <= 300 {
+    if n <= 400 {
         let mut counts = [0u8; 1536];
         return double_with(s, starts, stops, n, &mut counts, &mut row);
     }
