@@ -1,12 +1,14 @@
 //! The names of what the commands are to meet.
 
 /// How many keys `args` has.
-pub const SIZES: [(&str, usize, usize); 13] = [
+pub const SIZES: [(&str, usize, usize); 15] = [
     ("2 to 15", 2, 15),
     ("16", 16, 16),
     ("17", 17, 17),
-    ("18 to 300", 18, 300),
-    ("301 to 512", 301, 512),
+    ("18 to 399", 18, 399),
+    ("400", 400, 400),
+    ("401", 401, 401),
+    ("402 to 512", 402, 512),
     ("513 to 571", 513, 571),
     ("572 to 1,022", 572, 1_022),
     ("1,023", 1_023, 1_023),
@@ -111,7 +113,7 @@ pub fn size_name(size: &str, number: u32) -> String {
 }
 
 /// From this size on, commands are few.
-pub const FEW_SIZES: usize = 6;
+pub const FEW_SIZES: usize = 8;
 pub const FEW_DISTANCES: usize = 6;
 
 pub fn distance_name(distance: &str) -> String {
