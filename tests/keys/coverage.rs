@@ -13,6 +13,10 @@ use std::collections::BTreeSet;
 /// The last place that 16 bits hold.
 const LAST_PLACE: usize = 0xffff;
 
+/// How many keys a turn of the search takes where there are more than 1,024: one
+/// by itself, and a block of 1,024.
+const TURN: usize = 1_025;
+
 pub struct Coverage {
     counts: Counts,
     /// How many names come before those of `FEW`.
@@ -124,10 +128,12 @@ impl Coverage {
         self.add_if(starts, &format!("a key that starts at byte {text}"));
         let ends = keys.iter().any(|key| key.end() == place);
         self.add_if(ends, &format!("a key that ends at byte {text}"));
-        let start = keys.get(1_024).map(|key| key.at - key.head);
-        let behind = |start| keys.iter().any(|key| key.at == start + place);
-        let name = format!("a key {text} bytes behind the 1,025th");
-        self.add_if(start.is_some_and(behind), &name);
+        for (first, block) in [(1, "the first block"), (TURN + 1, "the second block")] {
+            let start = keys.get(first).map(|key| key.at - key.head);
+            let behind = |start| keys.iter().any(|key| key.end() == start + place);
+            let name = format!("a key that ends {text} bytes behind the start of {block}");
+            self.add_if(start.is_some_and(behind), &name);
+        }
     }
 
     fn lengths(&mut self, keys: &[Key]) {
@@ -272,10 +278,9 @@ impl Coverage {
         let (before, past) = (one.end() <= LAST_PLACE, other.end() > LAST_PLACE);
         self.add_if(!before && past, "26: both of the double past byte 65,535");
         self.add_if(before && past, "26: one of the double past byte 65,535");
-        let blocks = first / 1_024 != last / 1_024;
         self.add_if(
-            blocks,
-            "1,025 keys or more, the double in two blocks of 1,024",
+            first / TURN != last / TURN,
+            "1,026 keys or more, the double in two turns",
         );
         let others: Vec<Key> = keys
             .iter()

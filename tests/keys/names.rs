@@ -85,7 +85,7 @@ pub const MET: [&str; 42] = [
 ];
 
 /// What is in long commands alone, which are few.
-pub const FEW: [&str; 20] = [
+pub const FEW: [&str; 22] = [
     "0: a key past byte 65,535",
     "26: both of the double past byte 65,535",
     "26: one of the double past byte 65,535",
@@ -94,8 +94,10 @@ pub const FEW: [&str; 20] = [
     "a key that ends at byte 65,535",
     "a key that ends at byte 65,536",
     "keys over more than 100,000 bytes",
-    "a key 65,535 bytes behind the 1,025th",
-    "a key 65,536 bytes behind the 1,025th",
+    "a key that ends 65,535 bytes behind the start of the first block",
+    "a key that ends 65,536 bytes behind the start of the first block",
+    "a key that ends 65,535 bytes behind the start of the second block",
+    "a key that ends 65,536 bytes behind the start of the second block",
     "0: a key longer than 65,535 bytes",
     "0: two such keys of one length",
     "0: such a key begins another",
@@ -105,7 +107,7 @@ pub const FEW: [&str; 20] = [
     "up to 1,024 keys over more than 65,535 bytes, 26",
     "more than 1,024 keys over more than 65,535 bytes, 0",
     "more than 1,024 keys over more than 65,535 bytes, 26",
-    "1,025 keys or more, the double in two blocks of 1,024",
+    "1,026 keys or more, the double in two turns",
 ];
 
 pub fn size_name(size: &str, number: u32) -> String {

@@ -35,10 +35,10 @@ pub fn key_command(seed: u64, index: u64) -> Case {
     let plan = match index % 1000 {
         0..=3 => far(random),
         4..=6 => long_keys(random),
-        7 | 8 => wide_block(random),
-        9 => large(random, 1_800, 3_000),
-        10 => large(random, 1_027, 1_800),
-        11..=15 => large(random, 1_022, 1_026),
+        7..=9 => wide_block(random),
+        10 => large(random, 1_800, 3_000),
+        11 => large(random, 1_027, 1_800),
+        12..=15 => large(random, 1_022, 1_026),
         16 => large(random, 572, 1_021),
         17..=35 => shortest(random),
         36..=43 => ordinary(random, 301, 499),
@@ -190,13 +190,17 @@ fn wide_block(random: &mut Random) -> Plan {
 }
 
 /// The keys behind the long value are then close together, and some lie about
-/// 65,535 bytes behind the first or the 1,025th.
+/// 65,535 bytes behind the start of a block. The search takes one key by itself
+/// before each block of 1,024, so that blocks start at the second key and at the
+/// 1,027th.
 fn one_long_value(random: &mut Random) -> Plan {
     let count = random.between(1_070, 1_110);
     let keys = key_sets::shortest(count);
     let mut plan = bare(keys, 0, random);
-    let place = random.pick(&[0, 1_023, 1_024, 1_024, 1_025, 1_026]);
-    let length = random.between(65_400, 65_520);
+    let place = random.pick(&[0, 1, 1, 1_024, 1_026, 1_026]);
+    // Behind the second key keys end every three bytes, behind the 1,027th every
+    // four: with these lengths one ends 65,535 or 65,536 bytes behind the block's start.
+    let length = 12 * random.between(5_450, 5_459) + random.pick(&[2, 3, 6, 11]);
     plan.entries[place].value = Item::Bytes(vec![7; length]);
     plan
 }
