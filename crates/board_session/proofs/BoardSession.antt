@@ -9,12 +9,13 @@ use lib.Dec.{lit<}
 use lib.IntN.{pos}
 use lib.ListN.{length}
 use Rattle.keys.specs.Keys.{part, equal}
-use Rattle.cbor.specs.Cbor.{width, bigEndian, headValue, headOf, headAt, bytesAt, tagged, itemAt, value}
-use Rattle.cbor.specs.Heads.{bigBytes, shortest, headBytes, stringBytes}
+use Rattle.cbor.specs.Cbor.{width, shortest, bigEndian, headValue, headOf, headAt, bytesAt, tagged, itemAt, value}
+use Rattle.cbor.specs.Heads.{bigBytes, headBytes, stringBytes}
 use Rattle.entries.specs.Entries.{entryAt, entries, find}
 use Rattle.command.specs.declared.Number.{Number}
 use Rattle.command.specs.declared.Number.the-variants.{Whole}
 use Rattle.command.specs.Lookup.{partAt, integerIn}
+use Rattle.rules.specs.Rules.{commandByte}
 use Rattle.session.specs.Session.{Call, Outcome, took, session, events}
 use Rattle.channel.specs.Receiver.{Receiver}
 use Rattle.channel.specs.Channel.{channel}
@@ -64,7 +65,7 @@ sent-once how name pairs count with-data bytes out r b fits ready h cs e =
     let a = round-trip how name pairs count with-data bytes out r fits ready h .session cs e in
     let short : length command < 65533 = omega (arith, n .long) in
     once b (session channel r cs .records) command
-    (rw (a .records) (one-command (how .request) with-data command _ short (none-behind how bytes (o .some) (o .most) with-data)))
+    (rw (a .records) (one-command (how .request) (commandByte with-data command) command _ short (none-behind how bytes (o .some) (o .most) with-data)))
 
 pub sent-applied : SentApplied
 sent-applied how name pairs count with-data bytes out r b fits ready h cs e =

@@ -2,7 +2,6 @@
 -- Assumes nothing.
 use Prim.Native.Nat.{ℕ, zero, suc, _+_, _-_, _<_, _≤_}
 use mathlib.Core.Path.{_≡_, refl, ap, _∙_}
-use mathlib.Core.Bool.{Bool, true, false}
 use mathlib.Core.List.{List, [], _∷_, _++_, append-nil}
 use native.Mathlib.Omega.{arith}
 use lib.ListN.{length, take, drop, length-append}
@@ -17,7 +16,7 @@ use Rattle.round_trip.specs.Frames.{Filled}
 use Rattle.board_session.specs.BoardSession.{withCommand, firstCommands, commandsIn}
 
 -- a record whose body's length fits two bytes
-module _ (n kind request : ℕ) (third : Bool) (bytes rest : List ℕ) (k : kind < 65536) (short : length bytes < 65533) where
+module _ (n kind request third : ℕ) (bytes rest : List ℕ) (k : kind < 65536) (short : length bytes < 65533) where
   abbrev record-bytes : List ℕ
   record-bytes = requestRecord kind request third bytes
 
@@ -64,9 +63,9 @@ unfolding dataRecords firstCommands
 data-none zero request ps h = refl
 data-none (suc n) request [] h = none (suc n)
 data-none (suc n) request (p ∷ []) h =
-    rw (← append-nil (requestRecord 2 request true p)) (front n 2 request true p [] (omega arith) (h .0) ∙ none n)
+    rw (← append-nil (requestRecord 2 request 1 p)) (front n 2 request 1 p [] (omega arith) (h .0) ∙ none n)
 data-none (suc n) request (p ∷ q ∷ ps) h =
-    front n 2 request false p (dataRecords request (q ∷ ps)) (omega arith) (h .0) ∙ data-none n request (q ∷ ps) (h .1)
+    front n 2 request 0 p (dataRecords request (q ∷ ps)) (omega arith) (h .0) ∙ data-none n request (q ∷ ps) (h .1)
 
 -- payloads of frames that are full, or as long as the last one is, are short
 pub filled-short : (size n : ℕ) (fs : List Frame) → size < 65533 → Filled size n fs → Short (payloads fs)
@@ -75,7 +74,7 @@ filled-short size n (f ∷ []) h (Filled.last e z) = (omega (arith, e), tt)
 
 -- ---- one command, and behind it records that give none
 
-pub one-command : (request : ℕ) (third : Bool) (command rest : List ℕ) → length command < 65533 → ((n : ℕ) → firstCommands n rest ≡ [])
+pub one-command : (request third : ℕ) (command rest : List ℕ) → length command < 65533 → ((n : ℕ) → firstCommands n rest ≡ [])
     → commandsIn (requestRecord 1 request third command ++ rest) ≡ command ∷ []
 unfolding recordOf
 one-command request third command rest short h =

@@ -12,8 +12,8 @@ use lib.Seq.{getD-at}
 use lib.Dec.{ltb, leb, lit<}
 use borrow.Author.Tests.{ltb-true, ltb-false, lt-ltb, le-ltb, lt-leb}
 use Rattle.cbor.specs.declared.Item.the-variants.{Bytes, Map}
-use Rattle.cbor.specs.Cbor.{width, bigEndian, headValue, headOf, headAt, bytesAt, itemAt}
-use Rattle.cbor.specs.Heads.{bigBytes, shortest, headBytes, stringBytes}
+use Rattle.cbor.specs.Cbor.{width, shortest, bigEndian, headValue, headOf, headAt, bytesAt, itemAt}
+use Rattle.cbor.specs.Heads.{bigBytes, headBytes, stringBytes}
 use Rattle.cbor.specs.Laws.{HeadBack, NotShorter, NoneShorter}
 use Rattle.cbor.proofs.Ahead.{by-test}
 use Rattle.cbor.proofs.Shift.{shiftedItem, big-endian-shift, item-shift}

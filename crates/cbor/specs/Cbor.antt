@@ -3,7 +3,7 @@
 -- These are definitions: they assume nothing.
 use Prim.Native.Nat.{ℕ, zero, suc, _+_, _-_, _*_, _/_, _%_, _^_}
 use mathlib.Core.List.{List}
-use mathlib.Core.Bool.{Bool, false, cond}
+use mathlib.Core.Bool.{Bool, true, false, cond}
 use lib.ListN.{length, getD}
 use lib.Dec.{ltb, leb, eqb}
 use Rattle.cbor.specs.declared.Head.{Head}
@@ -29,6 +29,16 @@ repeat (suc n) r at = andThen (r at) (repeat n r)
 -- how many bytes follow a head's first byte: none below 24; 1, 2, 4, 8 at 24 to 27
 unfoldable pub width : ℕ → ℕ
 width info = cond (ltb info 24) 0 (2 ^ (info - 24))
+
+-- RFC 7049's rule for integers and lengths, and so for tags: the low five bits of the shortest head's first byte are the number itself
+-- below 24, else 24 to 27 for 1, 2, 4 or 8 bytes that follow
+unfoldable pub shortest : ℕ → ℕ
+shortest n = cond (ltb n 24) n (cond (ltb n 256) 24 (cond (ltb n 65536) 25 (cond (ltb n 4294967296) 26 27)))
+
+-- a head is the shortest for its number (E5)
+abbrev pub isShortest : Head → Bool
+isShortest Broken = true
+isShortest (Of major info n next) = eqb info (shortest n)
 
 -- false, true, null: one byte each
 abbrev pub simple : ℕ → ℕ → Item
@@ -61,7 +71,7 @@ module _ (s : List ℕ) where
   headValue at info = cond (ltb info 24) info (bigEndian (at + 1) (width info))
 
   -- A head: the major type in the first byte's high three bits, then its value. 28 to 31 are refused, and so are bytes missing.
-  -- Any width will do: heads needn't be shortest.
+  -- Any width will do: heads needn't be shortest, and `isShortest` tells whether one is.
   unfoldable pub headOf : ℕ → ℕ → ℕ → Head
   headOf at major info =
       cond (leb 28 info) Broken

@@ -6,8 +6,8 @@ use mathlib.Core.List.{List, _++_}
 use lib.ListN.{length, getD}
 use Rattle.cbor.specs.declared.Head.{Head}
 use Rattle.cbor.specs.declared.Head.the-variants.{Of, Broken}
-use Rattle.cbor.specs.Cbor.{headAt}
-use Rattle.cbor.specs.Heads.{shortest, headBytes}
+use Rattle.cbor.specs.Cbor.{shortest, headAt}
+use Rattle.cbor.specs.Heads.{headBytes}
 
 -- for every major type and every number of 64 bits, whatever bytes follow
 abbrev pub HeadBack : Type 0

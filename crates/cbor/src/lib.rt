@@ -4,9 +4,9 @@
 ghost use mathlib.Core.Path.{_≡_};
 ghost use Prim.Native.Nat.{_+_, _%_, _≤_, _<_};
 ghost use lib.ListN.{length};
-ghost use Rattle.cbor.specs.Cbor.{width, bigEndian, headAt, bytesAt, tagged, itemAt, scalarOf, key, value, repeat, pair, isItem};
+ghost use Rattle.cbor.specs.Cbor.{width, shortest, isShortest, bigEndian, headAt, bytesAt, tagged, itemAt, scalarOf, key, value, repeat, pair, isItem};
 ghost use Rattle.cbor.specs.End.{EndOf};
-ghost use Rattle.cbor.specs.Heads.{bigBytes, shortest, headBytes};
+ghost use Rattle.cbor.specs.Heads.{bigBytes, headBytes};
 ghost use Rattle.buffer.specs.Bytes.{write};
 
 // What reading a head finds: its major type, the low five bits of its first byte, its value and the position after it.
@@ -100,6 +100,41 @@ pub fn read_head(s: &[u8], at: usize) -> Head
         value,
         next: from + w,
     }
+}
+
+// The low five bits of the shortest head's first byte.
+fn shortest(n: u64) -> u8
+    ensures { λ r. ⌜ r ≡ shortest n ⌝ }
+{
+    if n < 24 {
+        return n as u8;
+    }
+    if n < 256 {
+        return 24;
+    }
+    if n < 65536 {
+        return 25;
+    }
+    if n < 4294967296 {
+        return 26;
+    }
+    27
+}
+
+// Whether a head that was read is the shortest for its number.
+pub fn is_shortest(h: Head) -> bool
+    ensures { λ r. ⌜ r ≡ isShortest h ⌝ }
+{
+    let Head::Of {
+        major: _,
+        info,
+        value,
+        next: _,
+    } = h
+    else {
+        return true;
+    };
+    info == shortest(value)
 }
 
 // The position after n bytes from `from` on, or one past the slice's end where it has fewer. The length is never added before it is
@@ -287,25 +322,6 @@ pub fn is_item(s: &[u8]) -> bool
         return false;
     };
     p == s.len()
-}
-
-// The low five bits of the shortest head's first byte.
-fn shortest(n: u64) -> u8
-    ensures { λ r. ⌜ r ≡ shortest n ⌝ }
-{
-    if n < 24 {
-        return n as u8;
-    }
-    if n < 256 {
-        return 24;
-    }
-    if n < 65536 {
-        return 25;
-    }
-    if n < 4294967296 {
-        return 26;
-    }
-    27
 }
 
 // Puts the low w bytes of a number into a buffer from a place on, the highest first, as far as the buffer goes.

@@ -17,9 +17,9 @@ use Rattle.frame.specs.declared.Header.{Header}
 use Rattle.frame.specs.Limits.{maxCommand, slotCount, partStart}
 use Rattle.frame.specs.Header.{lengthOf, headerOf}
 use Rattle.frame.specs.Frame.{Frame, framed, frameOf, begins, ends, isType, isNew, isMore, dataFollows, isLast, flagsFit}
-use Rattle.frame.specs.Records.{requestRecord}
+use Rattle.frame.specs.Records.{bit, requestRecord}
 use Rattle.rules.specs.declared.Met.{Met}
-use Rattle.rules.specs.Rules.{View, isCommand, checkOf, rules, firstBroken, recordWith}
+use Rattle.rules.specs.Rules.{View, isCommand, checkOf, rules, firstBroken, commandByte, recordWith}
 use Rattle.rules.specs.Stages.{viewed, headRules, lastRules}
 use Rattle.rules.proofs.Bools.{and-l, and-r, and-i, fails}
 use Rattle.rules.proofs.RuleLaws.{passed, in-range}
@@ -172,10 +172,10 @@ module _ {s : Channel} {w : List ℕ} (g : HasFrame s w) (count : length (s .slo
             let (a, b) = check-range (command s f w) n c o in
             judged-suc n placedIn (all-check ∙ c) o (is-placed s f w n a b)
 
-        pub answers-command : checkOf (command s f w) ≡ 0 → let new = requestRecord 1 (h .request) (dataFollows (framed h [])) (command s f w) in
+        pub answers-command : checkOf (command s f w) ≡ 0 → let new = requestRecord 1 (h .request) (commandByte (dataFollows (framed h [])) (command s f w)) (command s f w) in
             goal ≡ fedWith (acceptedWith s h (m .target) (collected (framed h []) size) (length new)) placedIn (write out done new)
         unfolding isMore frameOf recordWith dataFollows
-        answers-command c = accepts-command (requestRecord 1 (h .request) (dataFollows (framed h [])) (command s f w)) (all-check ∙ c) (rw (is-command, q))
+        answers-command c = accepts-command (requestRecord 1 (h .request) (commandByte (dataFollows (framed h [])) (command s f w)) (command s f w)) (all-check ∙ c) (rw (is-command, q))
 
     -- ---- data or settings
 
@@ -202,10 +202,10 @@ module _ {s : Channel} {w : List ℕ} (g : HasFrame s w) (count : length (s .slo
       work-stays : cond (isCommand f) (placed s f w) w ≡ w
       work-stays = rw no-command
 
-      pub answers-data : number ≡ 0 → h .kind ≡ 2 → let new = requestRecord 2 (h .request) (isLast (framed h [])) payload in
+      pub answers-data : number ≡ 0 → h .kind ≡ 2 → let new = requestRecord 2 (h .request) (bit (isLast (framed h []))) payload in
           goal ≡ fedWith (acceptedWith s h (m .place) (dataSlot (slotAt s (m .place)) (framed h [])) (length new)) w (write out done new)
       unfolding slotsAfter recordWith dataSlot placeOf slotAt frameOf isType isLast headerOf
-      answers-data z k = accepts (m .place) (dataSlot (slotAt s (m .place)) (framed h [])) w (requestRecord 2 (h .request) (isLast (framed h [])) payload) (all-last ∙ z) slots-same work-stays new-same
+      answers-data z k = accepts (m .place) (dataSlot (slotAt s (m .place)) (framed h [])) w (requestRecord 2 (h .request) (bit (isLast (framed h []))) payload) (all-last ∙ z) slots-same work-stays new-same
         where
           is-data : isType 2 f ≡ true
           is-data = eq-eqb (h .kind) 2 k
@@ -213,7 +213,7 @@ module _ {s : Channel} {w : List ℕ} (g : HasFrame s w) (count : length (s .slo
           slots-same : slotsAfter s f ≡ set (s .slots) (m .place) (dataSlot (slotAt s (m .place)) (framed h []))
           slots-same = rw (no-command, is-data)
 
-          new-same : recordWith f (command s f w) ≡ requestRecord 2 (h .request) (isLast (framed h [])) payload
+          new-same : recordWith f (command s f w) ≡ requestRecord 2 (h .request) (bit (isLast (framed h []))) payload
           new-same = rw (no-command, is-data)
 
       pub answers-settings : number ≡ 0 → (h .kind ≡ 2 → ⊥) → goal ≡ fedWith (acceptedWith s h 8 freeSlot 0) w out

@@ -23,7 +23,7 @@ use Rattle.channel.specs.Receiver.{Receiver, slotAt, placeOf, slotOf, lo
 use Rattle.requests.specs.Slots.{inPhase, isId, slotFits, idIn, slotsFit, enter, dataSlot}
 use Rattle.requests.specs.Phases.{freeSlot, isPhase, code}
 use Rattle.channel.specs.Channel.{deadFits, plainShape, heldShape, shape, channel}
-use Rattle.rules.specs.Rules.{recordWith, firstBroken, isCommand, rules}
+use Rattle.rules.specs.Rules.{commandByte, recordWith, firstBroken, isCommand, rules}
 use Rattle.rules.proofs.Bools.{and-l, and-r, and-i, and-no, or-r, no-not, no-is, clash, by-cond}
 use Rattle.channel.proofs.SlotLaws.{found, inside, each-fits, set-fits, same-id, of-id}
 use Rattle.rules.proofs.RuleLaws.{numbered, precedes, passed, in-range}
@@ -286,7 +286,7 @@ module _ (s : Channel) (f : Frame) (w : List ℕ) (wide : workArea ≤ length w)
     record-bound : length (f .payload) ≤ maxPayload → length (recordWith f (command s f w)) ≤ longestRecord
     unfolding recordWith recordOf command rules commandLength viewOf
     record-bound l =
-        by-cond (λ v. length v ≤ longestRecord) (isCommand f && not (isMore f)) (recordOf 1 (two (f .request) ++ bit (dataFollows f) ∷ command s f w))
+        by-cond (λ v. length v ≤ longestRecord) (isCommand f && not (isMore f)) (recordOf 1 (two (f .request) ++ commandByte (dataFollows f) (command s f w) ∷ command s f w))
         (cond (isType 2 f) (recordOf 2 (two (f .request) ++ bit (isLast f) ∷ f .payload)) [])
         (λ c.
         let a : slotAt s (target s f) .length + length (f .payload) ≤ maxCommand = room 0 refl refl refl (and-l (isCommand f) (not (isMore f)) c) e .1 in

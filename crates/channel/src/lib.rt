@@ -10,6 +10,7 @@ ghost use Prim.Native.Nat.{_+_, _≤_, _<_};
 ghost use lib.ListN.{length, take, drop};
 ghost use Rattle.buffer.specs.Bytes.{write};
 ghost use Rattle.frame.specs.Limits.{maxCommand, slotCount, workArea, partStart};
+ghost use Rattle.rules.specs.Rules.{checkOf, commandByte};
 ghost use Rattle.channel.specs.Receiver.{freshState};
 ghost use Rattle.channel.specs.Channel.{deadFits, plainShape, finishOf, finished, fedWith};
 ghost use Rattle.channel.specs.Steps.{metOf, slotSet, answerWith, refusedWith, acceptedWith, judgedInto, HasFrame, Passed};
@@ -149,6 +150,14 @@ fn place(work: &mut [u8], slot: usize, held: usize, n: usize)
     buffer::put(&mut work[start..stop], held, &payload[..n]);
 }
 
+// The third body byte of a command that passed the check: the data bit, and 2 more if the command is written loosely.
+fn command_byte(with_data: bool, command: &[u8]) -> u8
+    requires { ⌜ checkOf (now command) ≡ 0 ⌝ }
+    ensures { λ r. ⌜ r ≡ commandByte «with_data» (now (command .entry)) ⌝ }
+{
+    frame::bit(with_data) + 2 * frame::bit(loose::scan(command))
+}
+
 impl Channel {
     // What the frame of a header meets.
     fn met(self, h: Header) -> Met
@@ -199,14 +208,8 @@ impl Channel {
         if n != 0 {
             return self.refused(n);
         }
-        let written = frame::put_record(
-            out,
-            done,
-            1,
-            h.request,
-            h.data_follows(),
-            &work[start..stop],
-        );
+        let third = command_byte(h.data_follows(), &work[start..stop]);
+        let written = frame::put_record(out, done, 1, h.request, third, &work[start..stop]);
         self.accepted(h, target, x, written)
     }
 
@@ -224,7 +227,8 @@ impl Channel {
             let slots = self.slots;
             let x = requests::slot_at(slots, m.place);
             let y = requests::data_slot(x, h);
-            let written = frame::put_record(out, done, 2, h.request, h.is_last(), &work[8..end]);
+            let third = frame::bit(h.is_last());
+            let written = frame::put_record(out, done, 2, h.request, third, &work[8..end]);
             return self.accepted(h, m.place, y, written);
         }
         self.accepted(h, 8, Slot::free(), 0)

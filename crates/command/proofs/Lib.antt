@@ -4,4 +4,5 @@ mod Cases
 mod Signed
 pub mod Empty
 pub mod Missing
+pub mod Marks
 pub mod Traces

@@ -8,6 +8,7 @@ use lib.IntN.{ℤ, pos, negsuc}
 use Rattle.cbor.specs.declared.Item.{Item}
 use Rattle.cbor.specs.declared.Item.the-variants.{Unsigned, Negative, Bytes, Simple, Array, Map, Set, Refused}
 use Rattle.cbor.specs.Cbor.{itemAt}
+use Rattle.loose.specs.Loose.{loose}
 use Rattle.keys.specs.Keys.{part}
 use Rattle.entries.specs.declared.Entry.{Entry}
 use Rattle.entries.specs.Entries.{ifKeyed, entries, find}
@@ -57,6 +58,10 @@ module _ (s : List ℕ) where
   -- the number of arguments, 0 if refused (E3)
   unfoldable pub countOf : ℕ
   countOf = ifCommand (checked s) (λ start stop count first. count) (λ n. 0)
+
+  -- the mark: 1 if the command is written loosely, one of its heads not the shortest, else 0; 0 if refused (E5)
+  unfoldable pub markOf : ℕ
+  markOf = ifCommand (checked s) (λ start stop count first. cond (loose s 8 0) 1 0) (λ n. 0)
 
   unfoldable pub argumentAt : List ℕ → Place
   argumentAt key = ifCommand (checked s) (λ start stop count first. placeOf (find s key (entries s 6 count first))) NotFound

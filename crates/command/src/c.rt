@@ -1,7 +1,7 @@
 // The calls for C: a byte slice is a pointer and then a length, and the number is the result.
 ghost use mathlib.Core.Path.{_≡_};
 ghost use Rattle.command.specs.Command.{checked, numberOf};
-ghost use Rattle.command.specs.Lookup.{placeNumber, numberNumber, numberValue, countOf, argumentAt, integerAt};
+ghost use Rattle.command.specs.Lookup.{placeNumber, numberNumber, numberValue, countOf, markOf, argumentAt, integerAt};
 
 // The check: 0, 24, 25 or 26.
 #[no_mangle]
@@ -17,6 +17,14 @@ pub extern "C" fn command_argument_count(command: &[u8]) -> u64
     ensures { λ r. ⌜ r ≡ countOf (now (command .entry)) ⌝ }
 {
     crate::argument_count(command)
+}
+
+// The mark of a command that is written loosely: 1 if one of its heads is not the shortest, else 0; 0 if it is refused.
+#[no_mangle]
+pub extern "C" fn command_loose(command: &[u8]) -> u32
+    ensures { λ r. ⌜ r ≡ markOf (now (command .entry)) ⌝ }
+{
+    crate::loose(command)
 }
 
 // The lookup of an argument: the check's number, then 6.

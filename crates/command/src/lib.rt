@@ -6,7 +6,7 @@ use command_map::Checked;
 use entries::Entry;
 ghost use mathlib.Core.Path.{_≡_};
 ghost use Rattle.command.specs.Command.{checked, numberOf};
-ghost use Rattle.command.specs.Lookup.{placeNumber, numberNumber, numberValue, signedOf, nameOf, countOf, argumentAt, partAt, integerAt};
+ghost use Rattle.command.specs.Lookup.{placeNumber, numberNumber, numberValue, signedOf, nameOf, countOf, markOf, argumentAt, partAt, integerAt};
 
 // Where an argument's value starts and stops, or the refusal number.
 pub enum Place {
@@ -92,6 +92,25 @@ pub fn argument_count(command: &[u8]) -> u64
         return 0;
     };
     arguments
+}
+
+// The mark of a command that is written loosely: 1 if one of its heads is not the shortest, else 0; 0 if it is refused.
+pub fn loose(command: &[u8]) -> u32
+    ensures { λ r. ⌜ r ≡ markOf (now (command .entry)) ⌝ }
+{
+    let Checked::Command {
+        start: _,
+        stop: _,
+        count: _,
+        first: _,
+    } = check(command)
+    else {
+        return 0;
+    };
+    if loose::scan(command) {
+        return 1;
+    }
+    0
 }
 
 // Where the value of an argument stands.

@@ -14,9 +14,9 @@ use Rattle.requests.specs.declared.Slot.{Slot}
 use Rattle.channel.specs.declared.Channel.{Channel}
 use Rattle.frame.specs.Limits.{maxCommand, slotCount, streamCount, frameArea, workArea, partStart}
 use Rattle.session.specs.Session.{Reply}
-use Rattle.rules.specs.Rules.{checkOf, recordWith, View, isCommand, judged, Rule, rule, rules, firstBroken}
+use Rattle.rules.specs.Rules.{checkOf, commandByte, recordWith, View, isCommand, judged, Rule, rule, rules, firstBroken}
 use Rattle.frame.specs.Frame.{Frame, isEven, begins, ends, isType, isNew, isMore, dataFollows, isLast}
-use Rattle.frame.specs.Records.{recordOf, two, bit}
+use Rattle.frame.specs.Records.{bit, requestRecord}
 use Rattle.channel.specs.Receiver
 use Rattle.channel.specs.Receiver.{Receiver, slotAt, placeOf, slotOf, lowestFree, target, commandLength, streamsAfter, accepted, put, freed, viewOf}
 use Rattle.requests.specs.Slots.{inPhase, slotFits, idIn, slotsFit}
@@ -159,11 +159,14 @@ module _ (h : History) (r : Receiver) (m : Says h r) where
       pub same-record : recordWith f (Receiver.command s f w) ≡ recordFor h f
       unfolding recordFor recordWith
       same-record =
-          chosen (isCommand f && not (isMore f)) (recordOf 1 (two (f .request) ++ bit (dataFollows f) ∷ Receiver.command s f w)) (recordOf 1 (two (f .request) ++ bit (dataFollows f) ∷ History.command h f)) other other
-          (λ c. ap (λ (l : List ℕ). recordOf 1 (two (f .request) ++ bit (dataFollows f) ∷ l)) (command-is (fresh-id s f w (m .work) (m .count) (m .slots) e (and-l (isCommand f) (not (isMore f)) c)))) refl
+          chosen (isCommand f && not (isMore f)) (whole (Receiver.command s f w)) (whole (History.command h f)) other other
+          (λ c. ap whole (command-is (fresh-id s f w (m .work) (m .count) (m .slots) e (and-l (isCommand f) (not (isMore f)) c)))) refl
         where
+          whole : List ℕ → List ℕ
+          whole bytes = requestRecord 1 (f .request) (commandByte (dataFollows f) bytes) bytes
+
           other : List ℕ
-          other = cond (isType 2 f) (recordOf 2 (two (f .request) ++ bit (isLast f) ∷ f .payload)) []
+          other = cond (isType 2 f) (requestRecord 2 (f .request) (bit (isLast f)) (f .payload)) []
 
       odd : isEven (f .stream) ≡ false
       unfolding rules viewOf

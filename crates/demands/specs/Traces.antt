@@ -1,4 +1,4 @@
--- Document 01's traces T1 to T12 as one table. A row has calls from a start, the numbers that they answer, the taken count of each feed and
+-- Document 01's traces T1 to T12, and E5's mark, as one table. A row has calls from a start, the numbers that they answer, the taken count of each feed and
 -- the joined records; or a command and a key, with the check's number, the number of the argument as an integer, and its value.
 -- proofs/Traces.antt proves it. These are definitions: they assume nothing.
 use Prim.Native.Nat.{ℕ, _+_, _-_, _^_}
@@ -125,6 +125,10 @@ nine between =
     fed (opening 1 1 ++ opening 0 3 ++ opening 0 5 ++ opening 0 7 ++ opening 0 9 ++ opening 0 11 ++ opening 0 13)
     ∷ fed (header 0x10 0 15 0 0x11 ++ drop 8 t1) ∷ between ++ fed (opening 0 17) ∷ []
 
+-- T1's command with two bytes for the head of its name
+abbrev pub looseT1 : List ℕ
+looseT1 = 0xA2 ∷ 0x44 ∷ 0x6E ∷ 0x61 ∷ 0x6D ∷ 0x65 ∷ 0x58 ∷ 0x03 ∷ 0x73 ∷ 0x65 ∷ 0x74 ∷ 0x44 ∷ 0x61 ∷ 0x72 ∷ 0x67 ∷ 0x73 ∷ 0xA0 ∷ []
+
 abbrev pub t1Record : ℕ → List ℕ
 t1Record request = 0x13 ∷ 0 ∷ 1 ∷ 0 ∷ request ∷ 0 ∷ 0 ∷ drop 8 t1
 
@@ -161,6 +165,11 @@ table =
     ∷ look (withX (0x81 ∷ 0x81 ∷ 0x81 ∷ 0x81 ∷ 0x81 ∷ 0x81 ∷ 0x80 ∷ [])) 24 24 (pos 0)
     -- T12
     ∷ row (calls fresh (fed (opening 1 1) ∷ ends 1 ∷ [])) (0 ∷ 4 ∷ []) (8 ∷ []) []
+    -- E5: a command that is written loosely, cut in the loose head; it runs, and with the data bit it waits for data
+    ∷ row (calls fresh (fed (header 7 0 1 1 0x15 ++ take 7 looseT1) ∷ fed (header 10 0 1 0 0x12 ++ drop 7 looseT1) ∷ ends 1 ∷ [])) (0 ∷ 0 ∷ 0 ∷ []) (15 ∷ 18 ∷ [])
+    (0x14 ∷ 0 ∷ 1 ∷ 0 ∷ 1 ∷ 0 ∷ 2 ∷ looseT1)
+    ∷ row (calls fresh (fed (header 17 0 1 1 0x19 ++ looseT1) ∷ ends 1 ∷ fed (header 0 0 1 0 0x22) ∷ ends 1 ∷ [])) (0 ∷ 4 ∷ 0 ∷ 0 ∷ []) (25 ∷ 8 ∷ [])
+    (0x14 ∷ 0 ∷ 1 ∷ 0 ∷ 1 ∷ 0 ∷ 3 ∷ looseT1 ++ 3 ∷ 0 ∷ 2 ∷ 0 ∷ 1 ∷ 0 ∷ 1 ∷ [])
     ∷ []
 
 -- every row's result is what its trace gives

@@ -16,6 +16,6 @@ bit false = 0
 unfoldable pub recordOf : ℕ → List ℕ → List ℕ
 recordOf kind body = two (length body) ++ two kind ++ body
 
--- both kinds of body: request id (2), data or last bit (1), command bytes or payload
-abbrev pub requestRecord : ℕ → ℕ → Bool → List ℕ → List ℕ
-requestRecord kind request third bytes = recordOf kind (two request ++ bit third ∷ bytes)
+-- both kinds of body: request id (2), a byte, which is data's last bit or a command's data bit with its mark, command bytes or payload
+abbrev pub requestRecord : ℕ → ℕ → ℕ → List ℕ → List ℕ
+requestRecord kind request third bytes = recordOf kind (two request ++ third ∷ bytes)

@@ -8,7 +8,7 @@ ghost use Rattle.buffer.specs.Bytes.{write};
 ghost use Rattle.frame.specs.Header.{lengthOf, headerOf, headerBytes};
 ghost use Rattle.frame.specs.Frame.{framed, flag, begins, ends, isNew, isMore, dataFollows, isLast, flagsFit};
 ghost use Rattle.frame.specs.Settings.{isIdentity};
-ghost use Rattle.frame.specs.Records.{requestRecord};
+ghost use Rattle.frame.specs.Records.{bit, requestRecord};
 
 // The sizes of document 01, as `Limits` of the definitions has them: the longest payload, command and record, the places for the frame
 // under way, and the work area.
@@ -169,14 +169,21 @@ pub fn is_identity(payload: &[u8]) -> bool
     keys::same_key(keys::part(payload, start, stop), b"identity")
 }
 
-// Puts a request's record into the output from a place on, and answers its length: kind 1 with the data bit and a command, or kind 2 with
-// the last bit and a payload. What does not fit is left out.
+// A bool as a bit.
+pub fn bit(b: bool) -> u8
+    ensures { λ r. ⌜ r ≡ bit b ⌝ }
+{
+    b as u8
+}
+
+// Puts a request's record into the output from a place on, and answers its length: kind 1 with the data bit, the mark and a command, or
+// kind 2 with the last bit and a payload. What does not fit is left out.
 pub fn put_record(
     out: &mut [u8],
     at: usize,
     kind: u16,
     request: u16,
-    third: bool,
+    third: u8,
     bytes: &[u8],
 ) -> usize
     ensures { λ r. ⌜ (r ≡ length (requestRecord kind request third (now (bytes .entry)))) × (now (out .exit) ≡ write (now (out .entry)) at (requestRecord kind request third (now (bytes .entry)))) ⌝ }
@@ -192,7 +199,7 @@ pub fn put_record(
         (kind / 256 % 256) as u8,
         (request % 256) as u8,
         (request / 256 % 256) as u8,
-        third as u8,
+        third,
     ];
     buffer::put(out, at, &head);
     buffer::put(out, at + 7, bytes);

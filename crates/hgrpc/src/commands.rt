@@ -5,7 +5,7 @@ use command_map::Checked;
 ghost use mathlib.Core.Path.{_≡_};
 ghost use Prim.Native.Nat.{_-_};
 ghost use Rattle.command.specs.Command.{checked, numberOf};
-ghost use Rattle.command.specs.Lookup.{countOf};
+ghost use Rattle.command.specs.Lookup.{countOf, markOf};
 ghost use Rattle.hgrpc.specs.Calls.{part, integer, nameAnswer, argumentAnswer, integerAnswer};
 
 // The check of a command's bytes: 0, 24, 25 or 26.
@@ -22,6 +22,14 @@ pub extern "C" fn hgrpc_argument_count(command: &[u8]) -> u64
     ensures { λ r. ⌜ r ≡ countOf (now (command .entry)) ⌝ }
 {
     command::argument_count(command)
+}
+
+// The mark of a command that is written loosely: 1 if one of its heads is not the shortest, else 0; 0 if it is refused.
+#[no_mangle]
+pub extern "C" fn hgrpc_loose(command: &[u8]) -> u32
+    ensures { λ r. ⌜ r ≡ markOf (now (command .entry)) ⌝ }
+{
+    command::loose(command)
 }
 
 // How many places there are from one to another.

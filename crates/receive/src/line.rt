@@ -23,8 +23,9 @@ pub(crate) fn put_record(record: &[u8], out: &mut Text) -> usize {
 // A command that is whole.
 fn put_command(head: Head, command: &[u8], out: &mut Text) -> usize {
     let a = put_head(head, b"command ", b" data ", out);
-    let b = put_call(command, out, a);
-    put_redirect(command, out, b)
+    let b = put_counted(b" loose ", head.loose as u64, out, a);
+    let c = put_call(command, out, b);
+    put_redirect(command, out, c)
 }
 
 // The name and the arguments. The channel's commands pass the check: nothing is put of other bytes.

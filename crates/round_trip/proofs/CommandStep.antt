@@ -16,7 +16,7 @@ use Rattle.command.specs.Command.{checked, numberOf}
 use Rattle.requests.specs.declared.Phase.the-variants.{Free, Collecting, Waiting, Running}
 use Rattle.requests.specs.declared.Slot.{Slot}
 use Rattle.requests.specs.Phases.{isPhase, code}
-use Rattle.rules.specs.Rules.{isCommand, checkOf, rules, firstBroken, recordWith}
+use Rattle.rules.specs.Rules.{isCommand, checkOf, rules, firstBroken, commandByte, recordWith}
 use Rattle.rules.proofs.Bools.{by-cond}
 use Rattle.session.specs.Session.{fed, uncut}
 use Rattle.channel.specs.declared.Channel.{Channel}
@@ -123,7 +123,7 @@ module _ (how : Wishes) (o : Sendable how) (s : Channel) (y : Start how s) (with
     passes = λ n h. rw (is-more, not-not last, the-command) (check-passes last (numberOf (checked (bytes ++ payload))) n good h);
   })
 
-  the-record : recordWith f (command (r .state) f w) ≡ cond last (requestRecord 1 (how .request) with-data (bytes ++ payload)) []
+  the-record : recordWith f (command (r .state) f w) ≡ cond last (requestRecord 1 (how .request) (commandByte with-data (bytes ++ payload)) (bytes ++ payload)) []
   unfolding recordWith isCommand isType
   the-record = rw (is-more, not-not last, is-data, the-command)
 
@@ -155,7 +155,7 @@ module _ (how : Wishes) (o : Sendable how) (s : Channel) (y : Start how s) (with
   the-held : take (length held) (drop (partStart (lowestFree s)) (nextOf r f .work)) ≡ held
   the-held = by-cond (λ l. take (length l) (drop (partStart (lowestFree s)) (nextOf r f .work)) ≡ l) last [] (bytes ++ payload) (λ _. refl) (λ _. the-part)
 
-  pub command-reads : ReadsTo how s r (frameBytes f) (cond last (requestRecord 1 (how .request) with-data (bytes ++ payload)) [])
+  pub command-reads : ReadsTo how s r (frameBytes f) (cond last (requestRecord 1 (how .request) (commandByte with-data (bytes ++ payload)) (bytes ++ payload)) [])
       (slotAfter how with-data last (length (bytes ++ payload))) (not (last && not with-data && how .end)) held
   command-reads = record {
     to = nextOf r f;

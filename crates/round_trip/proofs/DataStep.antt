@@ -8,7 +8,7 @@ use native.Mathlib.Omega.{arith}
 use lib.ListN.{length, set}
 use Rattle.frame.specs.Limits.{maxPayload}
 use Rattle.frame.specs.Frame.{Frame, begins, ends, isType, isLast, flagsFit, frameBytes}
-use Rattle.frame.specs.Records.{requestRecord}
+use Rattle.frame.specs.Records.{bit, requestRecord}
 use Rattle.requests.specs.declared.Phase.the-variants.{Free, Waiting, Running}
 use Rattle.requests.specs.declared.Slot.{Slot}
 use Rattle.requests.specs.Phases.{isPhase, code}
@@ -73,7 +73,7 @@ module _ (how : Wishes) (o : Sendable how) (s : Channel) (y : Start how s) (r : 
   unfolding viewOf isPhase code
   unbroken = data-unbroken f (viewOf (r .state) f w) refl regular (rw slot-is)
 
-  the-record : recordWith f (command (r .state) f w) ≡ requestRecord 2 (how .request) last payload
+  the-record : recordWith f (command (r .state) f w) ≡ requestRecord 2 (how .request) (bit last) payload
   unfolding recordWith isCommand isType
   the-record = rw is-last
 
@@ -94,7 +94,7 @@ module _ (how : Wishes) (o : Sendable how) (s : Channel) (y : Start how s) (r : 
   unfolding accepted
   the-state = λ i. record { dead = (b .live ∙ sym (y .live)) i; pending = sym (y .between) i; slots = the-slots i; streams = the-streams i }
 
-  pub data-reads : ReadsTo how s r (frameBytes f) (requestRecord 2 (how .request) last payload) (slotAfterData how last) (not (last && how .end)) []
+  pub data-reads : ReadsTo how s r (frameBytes f) (requestRecord 2 (how .request) (bit last) payload) (slotAfterData how last) (not (last && how .end)) []
   data-reads = record {
     to = nextOf r f;
     reads = λ es. accepted-read r f b fits unbroken es ∙ ap (λ (l : List ℕ). fed l (uncut channel (nextOf r f) es)) the-record;

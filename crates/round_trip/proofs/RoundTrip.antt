@@ -14,6 +14,7 @@ use Rattle.frame.specs.Records.{requestRecord}
 use Rattle.buffer.proofs.WriteLaws.{take-front}
 use Rattle.command.specs.Command.{checked, numberOf}
 use Rattle.requests.specs.declared.Phase.the-variants.{Running}
+use Rattle.rules.specs.Rules.{commandByte}
 use Rattle.session.specs.Session.{took, fed, uncut}
 use Rattle.channel.specs.declared.Channel.{Channel}
 use Rattle.channel.specs.Receiver.{Receiver}
@@ -116,18 +117,18 @@ module _ (how : Wishes) (command bytes : List ℕ) (r : Receiver) (o : Sendable 
   between = record { live = y .live; pending = y .between; work = ok r (y .sound) .work }
 
   reads-command : (with-data : Bool)
-      → ReadsTo how s r (allBytes (commandFrames how with-data command)) (requestRecord 1 (how .request) with-data command) (slotAfter how with-data true 0) (not (not with-data && how .end)) []
+      → ReadsTo how s r (allBytes (commandFrames how with-data command)) (requestRecord 1 (how .request) (commandByte with-data command) command) (slotAfter how with-data true 0) (not (not with-data && how .end)) []
   unfolding commandFrames s
   reads-command with-data =
       command-run how o s start with-data (fullFrames (how .size) (length command)) r between true [] command command (meets-first how r start with-data)
       (rest-fits (how .size) (length command) (o .some)) refl long good
 
   abbrev records : Bool → List ℕ
-  records with-data = requestRecord 1 (how .request) with-data command ++ cond with-data (dataRecords (how .request) (payloads (dataFrames how bytes))) []
+  records with-data = requestRecord 1 (how .request) (commandByte with-data command) command ++ cond with-data (dataRecords (how .request) (payloads (dataFrames how bytes))) []
 
   reads-message : (with-data : Bool) → ReadsTo how s r (allBytes (messageFrames how command with-data bytes)) (records with-data) (slotIn how Running with-data 0) (not (how .end)) []
   unfolding messageFrames dataFrames
-  reads-message false = rw (append-nil (commandFrames how false command), append-nil (requestRecord 1 (how .request) false command)) (reads-command false)
+  reads-message false = rw (append-nil (commandFrames how false command), append-nil (requestRecord 1 (how .request) (commandByte false command) command)) (reads-command false)
   reads-message true =
       let c = reads-command true in
       rw (all-append (commandFrames how true command) (dataFrames how bytes))

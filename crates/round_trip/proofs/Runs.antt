@@ -7,9 +7,10 @@ use mathlib.Core.List.{List, [], _∷_, _++_, append-nil, append-assoc}
 use native.Mathlib.Omega.{arith}
 use lib.ListN.{length, take, drop, length-append, length-take, length-drop, take-append-drop}
 use Rattle.frame.specs.Limits.{maxPayload, maxCommand}
-use Rattle.frame.specs.Records.{requestRecord}
+use Rattle.frame.specs.Records.{bit, requestRecord}
 use Rattle.command.specs.Command.{checked, numberOf}
 use Rattle.requests.specs.declared.Phase.the-variants.{Waiting}
+use Rattle.rules.specs.Rules.{commandByte}
 use Rattle.channel.specs.declared.Channel.{Channel}
 use Rattle.channel.specs.Receiver.{Receiver}
 use Rattle.sender.specs.declared.Wishes.{Wishes}
@@ -29,7 +30,7 @@ module _ (how : Wishes) (o : Sendable how) (s : Channel) (y : Start how s) where
     CommandRun n =
         (r : Receiver) → Between r → (first : Bool) (bytes rest whole : List ℕ) → Meets how s with-data first bytes r
         → length rest ≤ n * how .size + how .size → bytes ++ rest ≡ whole → length whole ≤ maxCommand → numberOf (checked whole) ≡ 0
-        → ReadsTo how s r (allBytes (frames (commandFrame how with-data) (how .size) first n rest)) (requestRecord 1 (how .request) with-data whole)
+        → ReadsTo how s r (allBytes (frames (commandFrame how with-data) (how .size) first n rest)) (requestRecord 1 (how .request) (commandByte with-data whole) whole)
         (slotAfter how with-data true 0) (not (not with-data && how .end)) []
 
     command-last : CommandRun zero
@@ -47,7 +48,7 @@ module _ (how : Wishes) (o : Sendable how) (s : Channel) (y : Start how s) where
         let short : length now ≤ maxPayload = omega (arith, o .most, length-take (how .size) rest) in
         let fits : length (bytes ++ now) ≤ maxCommand = omega (arith, room, ap length joins, length-append (bytes ++ now) later) in
         let c = command-reads how o s y with-data r b first false bytes now m short fits (λ h. absurd (false≢true h)) in
-        reads-then how s r _ _ [] (requestRecord 1 (how .request) with-data whole) _ _ _ _ _ _ c
+        reads-then how s r _ _ [] (requestRecord 1 (how .request) (commandByte with-data whole) whole) _ _ _ _ _ _ c
         (again (c .to) (c .between) false (bytes ++ now) later whole (meets-later how o s y (c .to) with-data (bytes ++ now) (c .state) (c .part))
         (omega (arith, length-drop (how .size) rest)) joins room good)
 
@@ -60,7 +61,7 @@ module _ (how : Wishes) (o : Sendable how) (s : Channel) (y : Start how s) where
   -- the record of a data frame that is not the last
   more-records : (p : List ℕ) (first : Bool) (n : ℕ) (rest : List ℕ)
       → dataRecords (how .request) (p ∷ payloads (frames (dataFrame how) (how .size) first n rest))
-      ≡ requestRecord 2 (how .request) false p ++ dataRecords (how .request) (payloads (frames (dataFrame how) (how .size) first n rest))
+      ≡ requestRecord 2 (how .request) 0 p ++ dataRecords (how .request) (payloads (frames (dataFrame how) (how .size) first n rest))
   unfolding frames dataRecords
   more-records p first zero rest = refl
   more-records p first (suc n) rest = refl
@@ -73,11 +74,11 @@ module _ (how : Wishes) (o : Sendable how) (s : Channel) (y : Start how s) where
       (slotAfterData how true) (not (how .end)) []
 
   data-last : DataRun zero
-  unfolding frames allBytes dataRecords
+  unfolding frames allBytes dataRecords bit
   data-last r b first rest waits l = rw append-nil (data-reads how o s y r b first true rest waits (omega (arith, o .most)))
 
   data-more : (n : ℕ) → DataRun n → DataRun (suc n)
-  unfolding frames allBytes
+  unfolding frames allBytes bit
   data-more n again r b first rest waits l =
       let now : List ℕ = take (how .size) rest in
       let c = data-reads how o s y r b first false now waits (omega (arith, o .most, length-take (how .size) rest)) in

@@ -1,8 +1,8 @@
 -- The messages that are written out, by computation. Assumes nothing.
 use mathlib.Core.Path.{refl}
 use Rattle.buffer.specs.Bytes.{write}
-use Rattle.cbor.specs.Cbor.{width, bigEndian, headValue, headOf, headAt, bytesAt, itemAt, repeat, key, pair, value, isItem}
-use Rattle.cbor.specs.Heads.{bigBytes, shortest, headBytes, stringBytes}
+use Rattle.cbor.specs.Cbor.{width, shortest, bigEndian, headValue, headOf, headAt, bytesAt, itemAt, repeat, key, pair, value, isItem}
+use Rattle.cbor.specs.Heads.{bigBytes, headBytes, stringBytes}
 use Rattle.keys.specs.Keys.{part, equal, among, twice}
 use Rattle.entries.specs.Entries.{all, any, entryAt, entries, contents, find}
 use Rattle.command_map.specs.CommandMap.{allowed, valueUnder, argsDouble, double, mapOf}

@@ -11,6 +11,7 @@ use Rattle.frame.specs.Frame.{Frame}
 use Rattle.frame.specs.Records.{requestRecord}
 use Rattle.requests.specs.declared.Phase.the-variants.{Running}
 use Rattle.requests.specs.Slots.{idIn}
+use Rattle.rules.specs.Rules.{commandByte}
 use Rattle.session.specs.Session.{Call, took, Outcome, uncut, session, events}
 use Rattle.channel.specs.declared.Channel.{Channel}
 use Rattle.channel.specs.Receiver.{Receiver, lowestFree}
@@ -43,8 +44,8 @@ pub record Ready (how : Wishes) (r : Receiver) : Type 0 where
 -- a data record for each payload: the last and only the last has its bit
 unfoldable pub dataRecords : ℕ → List (List ℕ) → List ℕ
 dataRecords id [] = []
-dataRecords id (p ∷ []) = requestRecord 2 id true p
-dataRecords id (p ∷ q ∷ ps) = requestRecord 2 id false p ++ dataRecords id (q ∷ ps)
+dataRecords id (p ∷ []) = requestRecord 2 id 1 p
+dataRecords id (p ∷ q ∷ ps) = requestRecord 2 id 0 p ++ dataRecords id (q ∷ ps)
 
 unfoldable pub joined : List (List ℕ) → List ℕ
 joined [] = []
@@ -62,9 +63,9 @@ running how with-data s = record {
   streams = set (s .streams) (how .stream / 2) (not (how .end));
 }
 
--- the command's record with that very command and the data bit, then those of the data; no answer, no frame refused, nothing pending
+-- the command's record with that very command, the data bit and the mark, then those of the data; no answer, no frame refused, nothing pending
 pub record Arrives (how : Wishes) (command : List ℕ) (with-data : Bool) (bytes : List ℕ) (s : Channel) (o : Outcome Receiver) : Type 0 where
-  pub records : o .records ≡ requestRecord 1 (how .request) with-data command ++ cond with-data (dataRecords (how .request) (payloads (dataFrames how bytes))) []
+  pub records : o .records ≡ requestRecord 1 (how .request) (commandByte with-data command) command ++ cond with-data (dataRecords (how .request) (payloads (dataFrames how bytes))) []
   pub joins : joined (payloads (dataFrames how bytes)) ≡ bytes
   pub answers : o .answers ≡ []
   pub state : o .end .state ≡ running how with-data s

@@ -1,5 +1,5 @@
 -- The frame rules 11 to 29, and the record of an accepted frame, over what the frame meets.
-use Prim.Native.Nat.{ℕ}
+use Prim.Native.Nat.{ℕ, _+_, _*_}
 use mathlib.Core.Bool.{Bool, true, false, cond, _&&_, _||_, not, Bool·beq}
 use mathlib.Core.List.{List, [], _∷_}
 use lib.Dec.{leb, ltb, eqb}
@@ -7,9 +7,10 @@ use Rattle.requests.specs.declared.Phase.{Phase}
 use Rattle.requests.specs.declared.Phase.the-variants.{Free, Collecting, Waiting}
 use Rattle.frame.specs.Limits.{maxPayload, maxCommand}
 use Rattle.command.specs.Command.{checked, numberOf}
+use Rattle.command.specs.Lookup.{markOf}
 use Rattle.frame.specs.Frame.{Frame, isEven, begins, isType, isNew, isMore, dataFollows, isLast, flagsFit}
 use Rattle.frame.specs.Settings.{isIdentity}
-use Rattle.frame.specs.Records.{requestRecord}
+use Rattle.frame.specs.Records.{bit, requestRecord}
 use Rattle.requests.specs.Phases.{isPhase}
 
 pub record View : Type 0 where
@@ -73,9 +74,13 @@ unfoldable pub firstBroken : List Rule → Frame → View → ℕ
 firstBroken [] f v = 0
 firstBroken (x ∷ xs) f v = elim (x .broken f v) [ true ↦ x .number | false ↦ firstBroken xs f v ]
 
+-- a command's third body byte: the data bit, plus 2 if one of its heads is not the shortest (E5)
+unfoldable pub commandByte : Bool → List ℕ → ℕ
+commandByte with-data command = bit with-data + 2 * markOf command
+
 -- a whole command: all its payloads, joined in order; data: the payload; other frames give none
 unfoldable pub recordWith : Frame → List ℕ → List ℕ
 recordWith f command =
-    cond (isCommand f && not (isMore f)) (requestRecord 1 (f .request) (dataFollows f) command)
-    (cond (isType 2 f) (requestRecord 2 (f .request) (isLast f) (f .payload))
+    cond (isCommand f && not (isMore f)) (requestRecord 1 (f .request) (commandByte (dataFollows f) command) command)
+    (cond (isType 2 f) (requestRecord 2 (f .request) (bit (isLast f)) (f .payload))
     [])

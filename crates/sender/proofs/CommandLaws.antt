@@ -5,8 +5,8 @@ use mathlib.Core.List.{List, _∷_, _++_, append-assoc}
 use Prim.Native.Nat.{ℕ, _+_}
 use native.Mathlib.Omega.{arith}
 use lib.ListN.{length, length-append}
-use Rattle.cbor.specs.Cbor.{width}
-use Rattle.cbor.specs.Heads.{bigBytes, shortest, headBytes, stringBytes}
+use Rattle.cbor.specs.Cbor.{width, shortest}
+use Rattle.cbor.specs.Heads.{bigBytes, headBytes, stringBytes}
 use Rattle.buffer.specs.Bytes.{write}
 use Rattle.buffer.proofs.WriteLaws.{write-also}
 use Rattle.command_map.specs.CommandMap.{name-key, args-key}

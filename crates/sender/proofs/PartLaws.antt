@@ -11,8 +11,8 @@ use lib.Seq.{take-at, drop-at}
 use Rattle.cbor.specs.declared.Item.the-variants.{Bytes, Map}
 use Rattle.cbor.specs.declared.Next.{Next}
 use Rattle.cbor.specs.declared.Next.the-variants.{At, Bad}
-use Rattle.cbor.specs.Cbor.{width, andThen, itemAt, key, pair, repeat, value, whole, isItem}
-use Rattle.cbor.specs.Heads.{bigBytes, shortest, headBytes, stringBytes}
+use Rattle.cbor.specs.Cbor.{width, shortest, andThen, itemAt, key, pair, repeat, value, whole, isItem}
+use Rattle.cbor.specs.Heads.{bigBytes, headBytes, stringBytes}
 use Rattle.cbor.proofs.Shift.{shifted, repeat-shifts, pair-shifts, value-shifts, whole-shift}
 use Rattle.cbor.proofs.HeadLaws.{string-at, map-at}
 use Rattle.keys.specs.Keys.{part, equal, among, twice}

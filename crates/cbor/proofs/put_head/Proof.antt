@@ -6,8 +6,8 @@ use mathlib.Core.List.{List, [], _∷_}
 use native.Mathlib.Omega.{arith}
 use lib.ListN.{length}
 use borrow.Author.Needs.{needs}
-use Rattle.cbor.specs.Cbor.{width}
-use Rattle.cbor.specs.Heads.{bigBytes, shortest, headBytes}
+use Rattle.cbor.specs.Cbor.{width, shortest}
+use Rattle.cbor.specs.Heads.{bigBytes, headBytes}
 use Rattle.cbor.proofs.HeadLaws.{length-head, shortest-narrow}
 use Rattle.buffer.specs.Bytes.{write}
 use Rattle.buffer.proofs.WriteLaws.{write-out, write-twice}

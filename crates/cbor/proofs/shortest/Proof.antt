@@ -2,7 +2,7 @@
 -- Assumes nothing.
 use borrow.Author.Needs.{needs}
 use borrow.Author.Tests.{lt-ltb, le-ltb}
-use Rattle.cbor.specs.Heads.{shortest}
+use Rattle.cbor.specs.Cbor.{shortest}
 use Rattle.cbor.proofs.shortest.Statement.{statement}
 use Rattle.cbor.proofs.shortest.Tie as tie
 

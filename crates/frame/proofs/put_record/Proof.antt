@@ -1,25 +1,18 @@
 -- `frame::put_record` meets its contract: the seven bytes before the command or the payload, then those.
 -- Assumes nothing.
 use Prim.Native.Nat.{ℕ, suc, _+_, _/_, _%_}
-use mathlib.Core.Path.{_≡_, refl, sym, _∙_}
-use mathlib.Core.Bool.{Bool, true, false}
+use mathlib.Core.Path.{_≡_, sym, _∙_}
 use mathlib.Core.List.{List, [], _∷_}
 use native.Mathlib.Omega.{arith}
 use lib.ListN.{length}
 use borrow.Author.Needs.{needs}
-use mir.Val.{boolByte}
 use Rattle.buffer.specs.Bytes.{write}
 use Rattle.buffer.proofs.WriteLaws.{write-out, write-twice}
-use Rattle.frame.specs.Records.{bit, recordOf, requestRecord}
+use Rattle.frame.specs.Records.{recordOf, requestRecord}
 use Rattle.frame.proofs.put_record.Statement.{statement}
 use Rattle.frame.proofs.put_record.Tie as tie
 
-bit-byte : (b : Bool) → boolByte b ≡ bit b
-unfolding bit
-bit-byte true = refl
-bit-byte false = refl
-
-size : (kind request : ℕ) (third : Bool) (bytes : List ℕ) → length bytes + 3 + 4 ≡ length (requestRecord kind request third bytes)
+size : (kind request third : ℕ) (bytes : List ℕ) → length bytes + 3 + 4 ≡ length (requestRecord kind request third bytes)
 unfolding recordOf
 size kind request third bytes = omega arith
 
@@ -27,12 +20,12 @@ size kind request third bytes = omega arith
 abbrev headOf : ℕ → ℕ → ℕ → ℕ → List ℕ
 headOf kind request third body = body % 256 ∷ body / 256 % 256 ∷ kind % 256 ∷ kind / 256 % 256 ∷ request % 256 ∷ request / 256 % 256 ∷ third ∷ []
 
-in-two : (out : List ℕ) (at kind request : ℕ) (third : Bool) (bytes : List ℕ)
-    → write (write out at (headOf kind request (boolByte third) (length bytes + 3))) (at + 7) bytes ≡ write out at (requestRecord kind request third bytes)
+in-two : (out : List ℕ) (at kind request third : ℕ) (bytes : List ℕ)
+    → write (write out at (headOf kind request third (length bytes + 3))) (at + 7) bytes ≡ write out at (requestRecord kind request third bytes)
 unfolding recordOf
 in-two out at kind request third bytes =
     let n : length bytes + 3 ≡ suc (suc (suc (length bytes))) = omega arith in
-    rw (n, bit-byte third) (write-twice out at (headOf kind request (bit third) (suc (suc (suc (length bytes))))) bytes)
+    rw n (write-twice out at (headOf kind request third (suc (suc (suc (length bytes))))) bytes)
 
 returns : tie.Need-returns
 returns c = (size _ _ _ _, sym (write-out _ _ _ (c .if1 .taken)))
@@ -51,7 +44,6 @@ put-record-spec =
     (λ c. search needs)
     (λ c. search needs)
     returns
-    (λ c. search needs)
     (λ c. search needs)
     (λ c. search needs)
     (λ c. search needs)

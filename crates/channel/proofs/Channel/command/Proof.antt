@@ -15,7 +15,7 @@ use Rattle.frame.specs.Header.{headerOf}
 use Rattle.frame.specs.Frame.{framed, frameOf, isMore, dataFollows}
 use Rattle.frame.specs.Records.{requestRecord}
 use Rattle.rules.specs.declared.Met.{Met}
-use Rattle.rules.specs.Rules.{checkOf}
+use Rattle.rules.specs.Rules.{checkOf, commandByte}
 use Rattle.session.specs.Session.{Feed}
 use Rattle.channel.specs.declared.Channel.{Channel}
 use Rattle.channel.specs.declared.Fed.{Fed}
@@ -67,10 +67,10 @@ module _ {s : Channel} {h : Header} {m : Met} {w : List ℕ} (kind : h .kind ≡
           rw (r-is, w-is, met-same p, p .header)
           (sym (answers-refused (p .frame) count out done (passes-same p) kind-same (rw (p .header) at q) n (sym (n-is ∙ ap checkOf part-is)) o))
 
-      runs : (r : Fed) (b : Bool) (l : ℕ) (out′ : List ℕ) → n ≡ 0 → b ≡ dataFollows (framed h []) → let new = requestRecord 1 (h .request) b part in
+      runs : (r : Fed) (b : Bool) (third l : ℕ) (out′ : List ℕ) → n ≡ 0 → b ≡ dataFollows (framed h []) → third ≡ commandByte b part → let new = requestRecord 1 (h .request) third part in
           (l ≡ length new) × (out′ ≡ write out done new) → r ≡ acceptedWith s h (m .target) x l → fedWith r w′ out′ ≡ goal
-      runs r b l out′ z b-is (l-is, out-is) r-is =
-          rw (r-is, l-is, out-is, part-is, b-is, x-is, w-is, met-same p, p .header)
+      runs r b third l out′ z b-is third-is (l-is, out-is) r-is =
+          rw (r-is, l-is, out-is, third-is, part-is, b-is, x-is, w-is, met-same p, p .header)
           (sym (answers-command (p .frame) count out done (passes-same p) kind-same (rw (p .header) at q) (sym (n-is ∙ ap checkOf part-is) ∙ z)))
 
 module _ (a : tie.Start) where
@@ -112,17 +112,23 @@ returns-2 c =
     stops (a .pre .0) (a .pre .1) (has-eight a) (a .args .out .now) (a .args .done) _ _ (placed i .place .ensures) (i .before .command-slot .ensures) _
     (sym (i .is-more .ensures) ∙ e .if1 .left) (n .command-number .ensures) _ (c .before .if2 .taken) (c .refused .ensures)
 
+command-byte-requires : tie.Need-command-byte-requires
+command-byte-requires c κs =
+    let z = c .before .before .before in
+    sym (z .before .command-number .ensures) ∙ z .if2 .left
+
 returns-3 : tie.Need-returns-3
 returns-3 c =
     let r = c .before .before .before in
-    let d = r .before .before .before in
-    let z = d .before .before in
+    let t = r .before .before .before .before in
+    let d = t .before .before .before in
+    let z = d .before in
     let n = z .before in
     let e = n .before .before .before in
     let i = e .before in
     let a = first i in
     runs (a .pre .0) (a .pre .1) (has-eight a) (a .args .out .now) (a .args .done) _ _ (placed i .place .ensures) (i .before .command-slot .ensures) _
-    (sym (i .is-more .ensures) ∙ e .if1 .left) (n .command-number .ensures) _ _ _ _ (z .if2 .left) (d .data-follows .ensures) (r .put-record .ensures) (c .accepted2 .ensures)
+    (sym (i .is-more .ensures) ∙ e .if1 .left) (n .command-number .ensures) _ _ _ _ _ (z .if2 .left) (d .data-follows .ensures) (t .command-byte .ensures) (r .put-record .ensures) (c .accepted2 .ensures)
 
 pub command-spec : {M : Type 1} → statement M
 command-spec =
@@ -148,7 +154,11 @@ command-spec =
     (λ c κs. search needs)
     (λ c. search needs)
     (λ c. search needs)
-    (λ c. inside (c .before .before .before .before .before .before .before .before))
+    (λ c. inside (c .before .before .before .before .before .before .before))
+    command-byte-requires
+    (λ c. search needs)
+    (λ c. search needs)
+    (λ c. inside (c .before .before .before .before .before .before .before .before .before .before .before))
     (λ c κs. search needs)
     (λ c κs. search needs)
     (λ c. search needs)

@@ -12,7 +12,7 @@ use Rattle.frame.specs.declared.Header.{Header}
 use Rattle.frame.specs.Limits.{maxPayload, slotCount}
 use Rattle.frame.specs.Header.{headerOf}
 use Rattle.frame.specs.Frame.{framed, isLast}
-use Rattle.frame.specs.Records.{requestRecord}
+use Rattle.frame.specs.Records.{bit, requestRecord}
 use Rattle.requests.specs.declared.Slot.{Slot}
 use Rattle.requests.specs.Phases.{freeSlot}
 use Rattle.rules.specs.declared.Met.{Met}
@@ -42,8 +42,8 @@ module _ {s : Channel} {h : Header} {m : Met} {w : List ℕ} (kind : h .kind ≡
   abbrev number : ℕ
   number = firstBroken lastRules (framed h payload) (viewed m h [])
 
-  abbrev new : Bool → List ℕ
-  new last = requestRecord 2 (h .request) last payload
+  abbrev new : ℕ → List ℕ
+  new third = requestRecord 2 (h .request) third payload
 
   cut : 8 + h .length - 8 ≡ h .length
   cut = omega arith
@@ -56,12 +56,12 @@ module _ {s : Channel} {h : Header} {m : Met} {w : List ℕ} (kind : h .kind ≡
       rw r-is
       (sym (answers-last (p .frame) count out done (passes-same p) kind-same n (sym (rw (cut, met-same p, p .header) at q)) o))
 
-  takes-data : (n k : ℕ) (x y : Slot) (last : Bool) (after : List ℕ) (r : Fed) → n ≡ number → n ≡ 0 → h .kind ≡ 2
-      → x ≡ getD (s .slots) (m .place) freeSlot → y ≡ dataSlot x (framed h []) → last ≡ isLast (framed h [])
-      → (k ≡ length (new last)) × (after ≡ write out done (new last)) → r ≡ acceptedWith s h (m .place) y k → fedWith r w after ≡ goal
+  takes-data : (n k : ℕ) (x y : Slot) (last : Bool) (third : ℕ) (after : List ℕ) (r : Fed) → n ≡ number → n ≡ 0 → h .kind ≡ 2
+      → x ≡ getD (s .slots) (m .place) freeSlot → y ≡ dataSlot x (framed h []) → last ≡ isLast (framed h []) → third ≡ bit last
+      → (k ≡ length (new third)) × (after ≡ write out done (new third)) → r ≡ acceptedWith s h (m .place) y k → fedWith r w after ≡ goal
   unfolding slotAt
-  takes-data n k x y last after r q z t x-is y-is last-is (k-is, after-is) r-is =
-      rw (r-is, y-is, x-is, k-is, after-is, last-is, cut, met-same p, p .header)
+  takes-data n k x y last third after r q z t x-is y-is last-is third-is (k-is, after-is) r-is =
+      rw (r-is, y-is, x-is, k-is, after-is, third-is, last-is, cut, met-same p, p .header)
       (sym (answers-data (p .frame) count out done (passes-same p) kind-same (sym (rw (cut, met-same p, p .header) at q) ∙ z) (rw (p .header) at t)))
 
   takes-settings : (n : ℕ) (x : Slot) (r : Fed) → n ≡ number → n ≡ 0 → (h .kind ≡ 2 → ⊥) → x ≡ freeSlot → r ≡ acceptedWith s h 8 x 0 → fedWith r w out ≡ goal
@@ -86,12 +86,13 @@ returns c =
 returns-2 : tie.Need-returns-2
 returns-2 c =
     let r = c .before .before .before in
-    let x = r .before .before .before .before .before in
+    let t = r .before .before .before in
+    let x = t .before .before .before in
     let i = x .before .before in
     let l = i .before .before .before in
     let b = l .before .before .before .before .before in
-    takes-data (b .pre .0) (b .pre .1) (has-eight b) _ _ _ _ _ _ _ _ _ (l .last-number .ensures) (i .before .before .if1 .left) (i .if2 .taken) (x .slot-at .ensures)
-    (r .before .before .before .before .data-slot .ensures) (r .before .before .is-last .ensures) (r .put-record .ensures) (c .accepted .ensures)
+    takes-data (b .pre .0) (b .pre .1) (has-eight b) _ _ _ _ _ _ _ _ _ _ (l .last-number .ensures) (i .before .before .if1 .left) (i .if2 .taken) (x .slot-at .ensures)
+    (t .before .before .data-slot .ensures) (t .before .is-last .ensures) (t .bit .ensures) (r .put-record .ensures) (c .accepted .ensures)
 
 returns-3 : tie.Need-returns-3
 returns-3 c =
@@ -114,9 +115,10 @@ other-spec =
     (λ c κs. search needs)
     (λ c κs. search needs)
     (λ c κs. search needs)
+    (λ c κs. search needs)
     (λ c. search needs)
     (λ c. search needs)
-    (λ c. omega (arith, small (c .before .before .before .before .before .before .before .before .before .before .before .before .before)))
+    (λ c. omega (arith, small (c .before .before .before .before .before .before .before .before .before .before .before .before .before .before)))
     (λ c κs. search needs)
     (λ c κs. search needs)
     (λ c. search needs)

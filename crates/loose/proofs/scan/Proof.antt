@@ -1,0 +1,71 @@
+-- `loose::scan` meets its contract: at every turn what is left to say is the scan from the position reached.
+-- Assumes nothing.
+use borrow.Author.Needs.{needs}
+use mathlib.Core.Path.{_≡_, refl, sym, ap, _∙_}
+use Prim.Native.Nat.{_-_}
+use lib.ListN.{length}
+use native.Mathlib.Omega.{arith}
+use Rattle.loose.specs.Scan.{scanned}
+use Rattle.loose.proofs.ScanLaws.{from, goes-first, ends, nearer, turn}
+use Rattle.loose.proofs.scan.Statement.{statement}
+use Rattle.loose.proofs.scan.Tie as tie
+
+abbrev Inv-loop : tie.InvT-loop
+Inv-loop s p₀ p = scanned s ≡ from s p
+
+abbrev μ-loop : tie.MeasureT-loop
+μ-loop s p₀ p = length s - p
+
+loop-holds : tie.Need-loop-holds Inv-loop μ-loop
+unfolding scanned
+loop-holds c = refl
+
+loop-less : tie.Need-loop-less Inv-loop μ-loop
+loop-less c = nearer _ _ (c .before .before .before .loop-test .taken) _ refl _ (c .behind-first .ensures)
+
+loop-again : tie.Need-loop-again Inv-loop μ-loop
+loop-again c =
+    let l = c .before .before .before in
+    l .before .loop .inv ∙ goes-first _ _ (l .loop-test .taken) (c .before .if1 .taken) ∙ ap (from _) (sym (c .behind-first .ensures))
+
+returns : tie.Need-returns Inv-loop μ-loop
+returns c =
+    let h = c .before .before in
+    let l = h .before .before .before in
+    sym (l .before .loop .inv ∙ turn _ _ (l .loop-test .taken) _ (h .read-head .ensures) _ (c .before .is-shortest .ensures) ∙ rw (c .if2 .taken))
+
+loop-less-2 : tie.Need-loop-less-2 Inv-loop μ-loop
+loop-less-2 c =
+    let h = c .before .before .before in
+    nearer _ _ (h .before .before .before .loop-test .taken) _ (h .read-head .ensures) _ (c .behind .ensures)
+
+loop-again-2 : tie.Need-loop-again-2 Inv-loop μ-loop
+loop-again-2 c =
+    let h = c .before .before .before in
+    let l = h .before .before .before in
+    l .before .loop .inv ∙ turn _ _ (l .loop-test .taken) _ (h .read-head .ensures) _ (c .before .before .is-shortest .ensures) ∙ rw (c .before .if2 .left, c .behind .ensures)
+
+returns-2 : tie.Need-returns-2 Inv-loop μ-loop
+returns-2 c = sym (c .before .loop .inv ∙ ends _ _ (omega arith))
+
+behind-first-requires : tie.Need-behind-first-requires Inv-loop μ-loop
+behind-first-requires c κs = (c .before .before .loop-test .taken, c .if1 .taken)
+
+pub scan-spec : {M : Type 1} → statement M
+scan-spec =
+    tie.close
+    (tie.spec
+    Inv-loop
+    μ-loop
+    loop-holds
+    (λ c. search needs)
+    behind-first-requires
+    loop-less
+    loop-again
+    (λ c κs. search needs)
+    (λ c κs. search needs)
+    returns
+    (λ c κs. search needs)
+    loop-less-2
+    loop-again-2
+    returns-2)
