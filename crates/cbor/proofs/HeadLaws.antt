@@ -1,4 +1,5 @@
--- The shortest head reads as what it was written for, and no head that reads so is shorter. One law for every width.
+-- The shortest head reads as what it was written for, no head that reads so is shorter, and a head that was read is the shortest exactly if
+-- it is as long. One law for every width.
 -- Assumes nothing.
 use mathlib.Core.Path.{_≡_, refl, sym, ap, _∙_}
 use mathlib.Core.Bool.{Bool, true, false, cond}
@@ -9,12 +10,13 @@ use mathlib.Core.Logic.{⊎-elim}
 use native.Mathlib.Omega.{arith}
 use lib.ListN.{length, getD, length-append}
 use lib.Seq.{getD-at}
-use lib.Dec.{ltb, leb, lit<}
-use borrow.Author.Tests.{ltb-true, ltb-false, lt-ltb, le-ltb, lt-leb}
+use lib.Pow.{pow-pos, pow-lt}
+use lib.Dec.{ltb, leb, eqb, lit<}
+use borrow.Author.Tests.{ltb-true, ltb-false, lt-ltb, le-ltb, lt-leb, eqb-true, eqb-false, eq-eqb, ne-eqb}
 use Rattle.cbor.specs.declared.Item.the-variants.{Bytes, Map}
 use Rattle.cbor.specs.Cbor.{width, shortest, bigEndian, headValue, headOf, headAt, bytesAt, itemAt}
 use Rattle.cbor.specs.Heads.{bigBytes, headBytes, stringBytes}
-use Rattle.cbor.specs.Laws.{HeadBack, NotShorter, NoneShorter}
+use Rattle.cbor.specs.Laws.{HeadBack, NotShorter, NoneShorter, AsWritten, ShortestTold}
 use Rattle.cbor.proofs.Ahead.{by-test}
 use Rattle.cbor.proofs.Shift.{shiftedItem, big-endian-shift, item-shift}
 
@@ -162,6 +164,65 @@ none-shorter s bytes at =
     by-test (NotShorter at) (ltb (length s) (at + 1 + width info)) (λ f. tt) (λ f.
     let n : ℕ = headValue s at info in
     omega (arith, length-head (getD s at 0 / 32) n, width-least n info (value-itself s at info) (value-follows s bytes at info))))
+
+-- ---- which one is the shortest
+
+width-more : (a b : ℕ) → 24 ≤ a → a < b → width a < width b
+unfolding width
+width-more a b h k = rw (le-ltb a 24 h, le-ltb b 24 (omega arith)) (pow-lt (omega arith))
+
+-- so from 24 on they are alike where they name as many bytes
+same-width : (a b : ℕ) → 24 ≤ a → 24 ≤ b → eqb a b ≡ eqb (width a) (width b)
+same-width a b h k = by (eqb a b) refl
+  where
+    alike : (t u : Bool) → ltb a b ≡ t → ltb b a ≡ u → width a ≡ width b → a ≡ b
+    alike true u e f w = let l = width-more a b h (ltb-true a b e) in absurd (omega arith)
+    alike false true e f w = let l = width-more b a k (ltb-true b a f) in absurd (omega arith)
+    alike false false e f w = omega (arith, ltb-false a b e, ltb-false b a f)
+
+    by : (t : Bool) → eqb a b ≡ t → t ≡ eqb (width a) (width b)
+    by true e = sym (eq-eqb (width a) (width b) (ap width (eqb-true a b e)))
+    by false e = sym (ne-eqb (width a) (width b) (λ w. eqb-false a b e (alike (ltb a b) (ltb b a) refl refl w)))
+
+shortest-wide : (n : ℕ) → 24 ≤ n → 24 ≤ shortest n
+unfolding shortest
+shortest-wide n h =
+    rw (le-ltb n 24 h)
+    (by-test (λ (i : ℕ). 24 ≤ i) (ltb n 256) (λ e. omega arith) (λ e.
+    by-test (λ (i : ℕ). 24 ≤ i) (ltb n 65536) (λ e. omega arith) (λ e.
+    by-test (λ (i : ℕ). 24 ≤ i) (ltb n 4294967296) (λ e. omega arith) (λ e. omega arith))))
+
+width-some : (info : ℕ) → 24 ≤ info → 1 ≤ width info
+unfolding width
+width-some info h = rw (le-ltb info 24 h) (pow-pos (info - 24))
+
+by-width : (n info : ℕ) → (info < 24 → n ≡ info) → eqb info (shortest n) ≡ eqb (width info) (width (shortest n))
+by-width n info itself = by (ltb info 24) (ltb n 24) refl refl
+  where
+    by : (t u : Bool) → ltb info 24 ≡ t → ltb n 24 ≡ u → eqb info (shortest n) ≡ eqb (width info) (width (shortest n))
+    by true u e f =
+        rw (itself (ltb-true info 24 e), short-itself info e, eq-eqb info info refl, eq-eqb (width info) (width info) refl)
+    by false true e f =
+        let l = ltb-true n 24 f in
+        let m = width-some info (ltb-false info 24 e) in
+        rw (short-itself n f, width-none n f, ne-eqb info n (λ q. absurd (omega (arith, ltb-false info 24 e))), ne-eqb (width info) 0 (λ q. absurd (omega arith)))
+    by false false e f = same-width info (shortest n) (ltb-false info 24 e) (shortest-wide n (ltb-false n 24 f))
+
+pub shortest-told : ShortestTold
+unfolding headAt headOf
+shortest-told s at =
+    let info : ℕ = getD s at 0 % 32 in
+    by-test (AsWritten at) (leb 28 info) (λ e. tt) (λ e.
+    by-test (AsWritten at) (ltb (length s) (at + 1 + width info)) (λ f. tt) (λ f.
+    let n : ℕ = headValue s at info in
+    by-width n info (value-itself s at info) ∙ ends-alike at (width info) (width (shortest n)) (length (headBytes (getD s at 0 / 32) n)) (length-head (getD s at 0 / 32) n)))
+  where
+    ends-alike : (at a b c : ℕ) → c ≡ suc b → eqb a b ≡ eqb (at + c) (at + 1 + a)
+    ends-alike at a b c q = by (eqb a b) refl
+      where
+        by : (t : Bool) → eqb a b ≡ t → t ≡ eqb (at + c) (at + 1 + a)
+        by true e = sym (eq-eqb (at + c) (at + 1 + a) (omega (arith, eqb-true a b e)))
+        by false e = sym (ne-eqb (at + c) (at + 1 + a) (λ z. eqb-false a b e (omega arith)))
 
 -- A written byte string, and a written map's head, read behind a prefix.
 string-front : (k rest : List ℕ) → length k < 2 ^ 64 → itemAt (stringBytes k ++ rest) 0 ≡ Bytes (length (headBytes 2 (length k))) (length (stringBytes k))

@@ -1,2 +1,3 @@
--- What the proofs of several functions use, and the law that joins the two definitions.
+-- The law that joins the two definitions, which the proofs of the functions use, and what the scan makes of heads that are written.
 pub mod ScanLaws
+pub mod Written

@@ -37,7 +37,7 @@ module _ (s : List ℕ) where
   behind-ahead p (Of major info n next) a l =
       by-test (λ (q : ℕ). p < q) (eqb major 2) (λ e. by-test (λ (q : ℕ). p < q) (ltb (length s) (next + n)) (λ f. l) (λ f. omega arith)) (λ e. a .0)
 
-  enough : (k j p : ℕ) → length s ≤ k + p → length s ≤ j + p → scan s k p ≡ scan s j p
+  pub enough : (k j p : ℕ) → length s ≤ k + p → length s ≤ j + p → scan s k p ≡ scan s j p
   unfolding scan
   enough zero zero p a b = refl
   enough zero (suc j) p a b = rw (le-ltb p (length s) (omega arith))
@@ -212,11 +212,11 @@ module _ (s : List ℕ) where
   then-passes p o a Bad r q f g e = absurd (no-place e)
   then-passes p o a (At m) r q f g e = f m refl ∙ rw (g m e) (sym (or-assoc a (q m) (from o)))
 
-  pair-passes : {r : Reader} {q : Question} → Passes r q → Passes (pair s r) (loosePair s q)
+  pub pair-passes : {r : Reader} {q : Question} → Passes r q → Passes (pair s r) (loosePair s q)
   unfolding pair loosePair
   pair-passes {r} {q} h = record { passes = λ p o. then-passes p o (looseItem s p) (key s p) r q (key-passes .passes p) (λ m. h .passes m o) }
 
-  repeat-passes : {r : Reader} {q : Question} → Passes r q → (n : ℕ) → Passes (repeat n r) (anyOf n r q)
+  pub repeat-passes : {r : Reader} {q : Question} → Passes r q → (n : ℕ) → Passes (repeat n r) (anyOf n r q)
   unfolding repeat anyOf
   repeat-passes h zero = record { passes = λ p o e. ap from (at-inj e) }
   repeat-passes {r} {q} h (suc n) =
@@ -247,14 +247,18 @@ module _ (s : List ℕ) where
   value-passes zero = key-passes
   value-passes (suc l) = let h = value-passes l in record { passes = λ p o. value-of-passes h p o (itemAt s p) (λ m. item-passes p m) }
 
--- ---- bytes that are one item
+  -- ---- bytes that are read to their end
+
+  pub all-passed : {r : Reader} {q : Question} → Passes r q → whole s (r 0) ≡ true → scanned s ≡ q 0
+  unfolding scanned
+  all-passed {r} {q} h = by (r 0) refl
+    where
+      by : (x : Next) → r 0 ≡ x → whole s x ≡ true → from 0 ≡ q 0
+      by Bad e f = absurd (false≢true f)
+      by (At o) e f =
+          let end : o ≡ length s = eqb-true o (length s) f in
+          h .passes 0 o e ∙ rw (ends o (omega arith)) (or-false (q 0))
 
 pub scan-holds : ScanHolds
-unfolding isItem scanned
-scan-holds s h = by (value s 8 0) refl h
-  where
-    by : (x : Next) → value s 8 0 ≡ x → whole s x ≡ true → scan s (length s) 0 ≡ loose s 8 0
-    by Bad e f = absurd (false≢true f)
-    by (At o) e f =
-        let end : o ≡ length s = eqb-true o (length s) f in
-        value-passes s 8 .passes 0 o e ∙ rw (ends s o (omega arith)) (or-false (loose s 8 0))
+unfolding isItem
+scan-holds s h = all-passed s (value-passes s 8) h

@@ -1,5 +1,6 @@
 -- The command read back has its name and its arguments: the check finds the name's place and the first pair's, and the pairs read behind
--- what stands before them as they read alone. Assumes nothing.
+-- what stands before them as they read alone. Its mark is that of the pairs: the scan passes the heads that the sender writes.
+-- Assumes nothing.
 use Prim.Native.Nat.{ℕ, _+_, _^_, _<_}
 use mathlib.Core.Path.{_≡_, refl, sym, ap, _∙_}
 use mathlib.Core.Bool.{Bool, true, false, cond}
@@ -21,11 +22,16 @@ use Rattle.command_map.specs.declared.Checked.the-variants.{Command, NotItem, N
 use Rattle.command.specs.declared.Place.{Place}
 use Rattle.command.specs.declared.Place.the-variants.{Found, NotFound}
 use Rattle.command.specs.Command.{checked, numberOf}
-use Rattle.command.specs.Lookup.{placeNumber, placeOf, signedOf, nameOf, countOf, argumentAt, partAt, integerIn, integerAt}
+use Rattle.command.specs.Lookup.{placeNumber, placeOf, signedOf, nameOf, countOf, markOf, argumentAt, partAt, integerIn, integerAt}
+use Rattle.loose.specs.Scan.{scanned}
+use Rattle.loose.proofs.ScanLaws.{pair-passes, repeat-passes, value-passes, all-passed}
+use Rattle.loose.proofs.Written.{head-passed, string-passed}
+use Rattle.command_map.specs.CommandMap.{name-key, args-key}
+use Rattle.command.proofs.Marks.{marked}
 use Rattle.demands.proofs.SeenLaws.{never}
 use Rattle.sender.specs.Parts.{commandBytes, nameStart, nameStop, firstPair, pairsEnd, nameFits, byKeys, partsChecked}
 use Rattle.sender.proofs.PartLaws.{to-pairs, pairs-place, pairs-after, name-content, checked-by-parts}
-use Rattle.round_trip.specs.ReadBack.{placeIn, ReadsBack, ReadBack}
+use Rattle.round_trip.specs.ReadBack.{placeIn, loosePairs, ReadsBack, ReadBack}
 
 -- ---- a place behind a prefix
 
@@ -78,6 +84,22 @@ passes true true Others start stop count first h = never 24 h
 passes true false k start stop count first h = never 24 h
 passes false f k start stop count first h = never 23 h
 
+-- the pairs of such a command are read to their end
+to-end : (w f : Bool) (k : Keys) (start stop count first : ℕ) → numberOf (cond w (cond f (byKeys k (Command start stop count first)) NotCommand) NotItem) ≡ 0 → w ≡ true
+to-end true f k start stop count first h = refl
+to-end false f k start stop count first h = never 23 h
+
+-- the heads before the pairs are shortest
+own-passed : (name pairs : List ℕ) (count : ℕ) → length name < 2 ^ 64 → count < 2 ^ 64 → scanned (commandBytes name pairs count) ≡ scanned pairs
+unfolding commandBytes
+own-passed name pairs count hn hc =
+    let small : 4 < 2 ^ 64 = omega arith in
+    head-passed 5 2 _ (omega arith) (λ e. absurd (omega arith))
+    ∙ string-passed name-key _ small
+    ∙ string-passed name _ hn
+    ∙ string-passed args-key _ small
+    ∙ head-passed 5 count pairs hc (λ e. absurd (omega arith))
+
 module _ (name pairs : List ℕ) (count : ℕ) (hn : length name < 2 ^ 64) (hc : count < 2 ^ 64) (h : numberOf (checked (commandBytes name pairs count)) ≡ 0) where
   abbrev s : List ℕ
   s = commandBytes name pairs count
@@ -88,6 +110,18 @@ module _ (name pairs : List ℕ) (count : ℕ) (hn : length name < 2 ^ 64) (hc :
       let e = checked-by-parts name pairs count hn hc in
       e ∙ passes (whole pairs (pairsEnd pairs count)) (nameFits name) (keysOf pairs (entries pairs 6 count 0)) (nameStart name) (nameStop name) count (firstPair name count) (rw e at h)
 
+  read : whole pairs (pairsEnd pairs count) ≡ true
+  unfolding partsChecked
+  read =
+      let e = checked-by-parts name pairs count hn hc in
+      to-end (whole pairs (pairsEnd pairs count)) (nameFits name) (keysOf pairs (entries pairs 6 count 0)) (nameStart name) (nameStop name) count (firstPair name count) (rw e at h)
+
+  mark : markOf s ≡ cond (loosePairs pairs count) 1 0
+  unfolding pairsEnd
+  mark =
+      let of-pairs = all-passed pairs (repeat-passes pairs (pair-passes pairs (value-passes pairs 6)) count) read in
+      sym (marked s (scanned s) refl h) ∙ ap (λ (b : Bool). cond b 1 0) (own-passed name pairs count hn hc ∙ of-pairs)
+
   place : (key : List ℕ) → argumentAt s key ≡ shiftedPlace (length (to-pairs name pairs count)) (placeIn pairs count key)
   unfolding argumentAt
   place key = rw (check, pairs-place name pairs count, pairs-after name pairs count) (found-shift (to-pairs name pairs count) pairs count key)
@@ -97,6 +131,7 @@ module _ (name pairs : List ℕ) (count : ℕ) (hn : length name < 2 ^ 64) (hc :
   reads-back = record {
     named = rw check (name-content name pairs count);
     counted = rw check;
+    marked = mark;
     number = λ key. rw (place key) (number-shift (length (to-pairs name pairs count)) (placeIn pairs count key));
     value = λ key. rw (place key, pairs-after name pairs count) (value-shift (to-pairs name pairs count) pairs (placeIn pairs count key));
     integer = λ key. rw (place key, pairs-after name pairs count) (integer-shift (to-pairs name pairs count) pairs (placeIn pairs count key));
