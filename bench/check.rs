@@ -11,9 +11,33 @@ const TABLE: usize = 2048;
 /// A key's content: the place where it starts, and its length.
 type Key = (u16, u16);
 
+/// The least number that does not fit a shorter head, by the head's info from 24
+/// on.
+const LEAST: [u64; 4] = [24, 0x100, 0x1_0000, 0x1_0000_0000];
+
 struct Reader<'a> {
     bytes: &'a [u8],
     at: usize,
+    /// Whether a head so far was not the shortest.
+    loose: bool,
+}
+
+impl<'a> Reader<'a> {
+    fn new(bytes: &'a [u8]) -> Reader<'a> {
+        Reader {
+            bytes,
+            at: 0,
+            loose: false,
+        }
+    }
+}
+
+/// What the check says of a command.
+#[derive(PartialEq, Eq)]
+pub struct Checked {
+    pub number: u8,
+    /// Whether it is accepted, and a head in it is not the shortest.
+    pub loose: bool,
 }
 
 /// What is known of the entries of `args`.
@@ -29,23 +53,21 @@ struct Head {
 }
 
 /// 0, or 24 before 25 before 26, each over the whole command.
-pub fn check(command: &[u8]) -> u8 {
-    let mut reader = Reader {
-        bytes: command,
-        at: 0,
-    };
-    match reader.command() {
+pub fn check(command: &[u8]) -> Checked {
+    let mut reader = Reader::new(command);
+    let number = match reader.command() {
         Some(number) if reader.at == command.len() => number,
         _ => 24,
+    };
+    Checked {
+        number,
+        loose: number == 0 && reader.loose,
     }
 }
 
 /// Whether a settings payload is one byte string that reads `identity`.
 pub fn is_identity(payload: &[u8]) -> bool {
-    let mut reader = Reader {
-        bytes: payload,
-        at: 0,
-    };
+    let mut reader = Reader::new(payload);
     let content = match reader.head() {
         Some(head) if head.major == 2 => reader.take(head.argument),
         _ => None,
@@ -61,7 +83,11 @@ impl<'a> Reader<'a> {
         let info = first & 0x1f;
         let argument = match info {
             0..=23 => u64::from(info),
-            24..=27 => self.wide(1 << (info - 24))?,
+            24..=27 => {
+                let argument = self.wide(1 << (info - 24))?;
+                self.loose |= argument < LEAST[usize::from(info - 24)];
+                argument
+            }
             _ => return None,
         };
         Some(Head {

@@ -183,23 +183,29 @@ impl<'a> Receiver<'a> {
         Ok(written)
     }
 
-    fn command(&mut self, header: &Header, out: &mut [u8]) -> Result<usize, u8> {
-        let with_data = header.is_set(0x08);
+    /// The slot that a command frame is for.
+    #[inline(always)]
+    fn place(&self, header: &Header, with_data: bool) -> Result<usize, u8> {
         let held = self.slot_of(header.request);
-        let place = match header.flags & 0x03 {
+        match header.flags & 0x03 {
             0x01 => {
                 refuse_if(held.is_some(), 19)?;
                 let free = self.slots.iter().position(|slot| slot.phase == Phase::Free);
-                free.ok_or(20)?
+                free.ok_or(20)
             }
             0x02 => {
                 let place = held.ok_or(21)?;
                 refuse_if(self.slots[place].phase != Phase::Collecting, 21)?;
                 refuse_if(self.slots[place].with_data != with_data, 22)?;
-                place
+                Ok(place)
             }
-            _ => return Err(18),
-        };
+            _ => Err(18),
+        }
+    }
+
+    fn command(&mut self, header: &Header, out: &mut [u8]) -> Result<usize, u8> {
+        let with_data = header.is_set(0x08);
+        let place = self.place(header, with_data)?;
         let before = self.slots[place].length;
         let length = before + header.length;
         refuse_if(length > COMMAND, 23)?;
@@ -210,9 +216,10 @@ impl<'a> Receiver<'a> {
         let phase = if header.is_set(0x04) {
             Phase::Collecting
         } else {
-            let number = check(&part[..length]);
-            refuse_if(number != 0, number)?;
-            written = put_record(out, 1, header.request, with_data, &part[..length]);
+            let checked = check(&part[..length]);
+            refuse_if(checked.number != 0, checked.number)?;
+            let third = u8::from(with_data) | u8::from(checked.loose) << 1;
+            written = put_record(out, 1, header.request, third, &part[..length]);
             if with_data {
                 Phase::Waiting
             } else {
@@ -242,7 +249,7 @@ impl<'a> Receiver<'a> {
             slot.phase = Phase::Running;
         }
         let payload = &self.work[HEADER..][..header.length];
-        Ok(put_record(out, 2, header.request, last, payload))
+        Ok(put_record(out, 2, header.request, last.into(), payload))
     }
 
     fn settings(&self, header: &Header, begins: bool) -> Result<usize, u8> {
@@ -273,10 +280,10 @@ impl<'a> Receiver<'a> {
     }
 }
 
-fn put_record(out: &mut [u8], kind: u8, request: u16, bit: bool, content: &[u8]) -> usize {
+fn put_record(out: &mut [u8], kind: u8, request: u16, third: u8, content: &[u8]) -> usize {
     let body = (content.len() as u16 + 3).to_le_bytes();
     let id = request.to_le_bytes();
-    let head = [body[0], body[1], kind, 0, id[0], id[1], u8::from(bit)];
+    let head = [body[0], body[1], kind, 0, id[0], id[1], third];
     out[..7].copy_from_slice(&head);
     out[7..][..content.len()].copy_from_slice(content);
     7 + content.len()

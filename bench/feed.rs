@@ -15,6 +15,7 @@ mod fast;
 #[path = "../bindings/hgrpc.rs"]
 mod hgrpc;
 
+use check::{check, Checked};
 use fast::{Fed, RECORD, WORK};
 use second::receiver::{Receiver, Uncut};
 use second::state::State;
@@ -109,7 +110,8 @@ impl Counts {
             return;
         };
         self.bytes += records.len() as u64;
-        let more = records.len() as u64 + u64::from(*last);
+        // The third byte of the first record's body says how its command is written.
+        let more = records.len() as u64 + u64::from(records[6]) + u64::from(*last);
         self.sum = self.sum.wrapping_add(more);
     }
 }
@@ -150,7 +152,8 @@ fn take(receiver: &mut impl Feed, piece: &[u8], out: &mut [u8], counts: &mut Cou
         }
         let records = &out[..fed.written];
         counts.count(records);
-        if let [_, _, 1, 0, low, high, 0, ..] | [_, _, 2, 0, low, high, 1, ..] = *records {
+        // A command without data, loose or not, and the last data.
+        if let [_, _, 1, 0, low, high, 0 | 2, ..] | [_, _, 2, 0, low, high, 1, ..] = *records {
             receiver.finish(u16::from_le_bytes([low, high]));
         }
     }
@@ -211,11 +214,11 @@ fn strings() -> Vec<u8> {
     command(2, &[entry(0), entry(1)].concat())
 }
 
-/// 26 integers. The last has a wider head, so that there are 200 bytes.
+/// 26 integers. The last needs a wider head, so that there are 200 bytes.
 fn integers() -> Vec<u8> {
     let entry = |number| [&key(number)[..], &[0x18, 24 + number]].concat();
     let most: Vec<u8> = (0..25).flat_map(entry).collect();
-    command(26, &[&most[..], &key(25), &[0x19, 0, 49]].concat())
+    command(26, &[&most[..], &key(25), &[0x19, 1, 0]].concat())
 }
 
 /// As deep as the check goes: as many of the shortest keys as asked for, in no
@@ -265,10 +268,12 @@ fn make(kind: &str, size: usize) -> Result<()> {
 fn compare(seed: u64, count: u64) {
     for index in 0..100 * count {
         let command = generate::case(seed, index).command;
+        let wanted = Checked {
+            number: second::command::check(&command) as u8,
+            loose: second::command::loose(&command),
+        };
         // The receiver's check is asked about no longer ones.
-        if command.len() <= 2048
-            && u32::from(check::check(&command)) != second::command::check(&command)
-        {
+        if command.len() <= 2048 && check(&command) != wanted {
             fail(&format!(
                 "command {index} of seed {seed} is checked otherwise"
             ));

@@ -77,6 +77,7 @@ pub mod raw {
             value: *mut i64,
         ) -> u32;
         pub fn hgrpc_argument_count(command: *const u8, length: usize) -> u64;
+        pub fn hgrpc_loose(command: *const u8, length: usize) -> u32;
         pub fn hgrpc_board_first(board: *mut u8, board_length: usize) -> u32;
         pub fn hgrpc_board_apply(
             board: *mut u8,
@@ -260,6 +261,14 @@ pub fn argument_count(command: &[u8]) -> u64 {
     unsafe { raw::hgrpc_argument_count(command.as_ptr(), command.len()) }
 }
 
+/// Whether a command is written loosely: it passes the check, and one of its
+/// heads, be it of an integer, a byte string, an array, a map or a set's tag, is
+/// not the shortest for its number. False if the check refuses the command.
+pub fn loose(command: &[u8]) -> bool {
+    // The pointer comes with its own length.
+    unsafe { raw::hgrpc_loose(command.as_ptr(), command.len()) == 1 }
+}
+
 /// Sixteen coils, each on or off with a label of 0 to `LABEL_LONGEST` bytes.
 #[derive(Clone, Debug, PartialEq, Eq)]
 pub struct Board {
@@ -431,7 +440,8 @@ fn part(bytes: &[u8], number: u32, at: usize, size: usize) -> Result<&[u8], u32>
 /// What a record tells.
 #[derive(Clone, Copy, Debug, PartialEq, Eq)]
 pub enum Kind {
-    /// A command is whole; the bit says whether data follows.
+    /// A command is whole; the bit says whether data follows, and `loose` how it
+    /// is written.
     Command,
     /// Data of a request; the bit says whether it is the last.
     Data,
@@ -442,13 +452,16 @@ pub struct Record<'o> {
     pub kind: Kind,
     pub request: u16,
     pub bit: bool,
+    /// Of a command, as `loose` has it: a head in it is not the shortest for its
+    /// number. False of data.
+    pub loose: bool,
     /// The whole command, or the payload of the data frame.
     pub bytes: &'o [u8],
 }
 
 impl Record<'_> {
     /// Whether the request runs now, so that finish answers 0: a command that
-    /// no data follows, or the last data.
+    /// no data follows, however it is written, or the last data.
     pub fn runs(&self) -> bool {
         (self.kind == Kind::Command) != self.bit
     }
@@ -476,6 +489,7 @@ impl<'o> Iterator for Records<'o> {
             ]))
         };
         let end = 4 + usize::from(two(0)?);
+        let third = *self.rest.get(6)?;
         let record = Record {
             kind: match two(2)? {
                 1 => Kind::Command,
@@ -483,7 +497,8 @@ impl<'o> Iterator for Records<'o> {
                 _ => return None,
             },
             request: two(4)?,
-            bit: *self.rest.get(6)? == 1,
+            bit: third & 1 == 1,
+            loose: third >> 1 & 1 == 1,
             bytes: self.rest.get(RECORD_HEAD..end)?,
         };
         self.rest = &self.rest[end..];

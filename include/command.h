@@ -14,6 +14,11 @@ uint32_t command_check(const uint8_t *command, size_t length);
 /* The number of arguments, 0 if the check refuses the command. */
 uint64_t command_argument_count(const uint8_t *command, size_t length);
 
+/* 1 if the command is written loosely: one of its heads, be it of an integer, a
+ * byte string, an array, a map or a set's tag, is not the shortest for its number.
+ * 0 if all are, or if the check refuses the command. */
+uint32_t command_loose(const uint8_t *command, size_t length);
+
 /* The check's number, then 6 if the key is absent, else 0. */
 uint32_t command_argument_number(const uint8_t *command, size_t length,
                                  const uint8_t *key, size_t key_length);

@@ -82,7 +82,8 @@ extern "C" {
 #define HGRPC_COILS 16             /* coils of a board, counted from 0 */
 #define HGRPC_LABEL_LONGEST 16     /* bytes of a coil's label, at most */
 
-/* The kinds of records. */
+/* The kinds of records. Beside its bit a command has `loose`, which says how it is
+ * written. */
 #define HGRPC_KIND_COMMAND 1 /* a command is whole; its bit says whether data follows */
 #define HGRPC_KIND_DATA 2    /* data of a request; its bit says whether it is the last */
 
@@ -117,6 +118,13 @@ uint32_t hgrpc_check(const uint8_t *command, size_t length);
 
 /* The number of arguments, 0 if hgrpc_check refuses the command. */
 uint64_t hgrpc_argument_count(const uint8_t *command, size_t length);
+
+/* Whether a command is written loosely: 1 if one of its heads, be it of an
+ * integer, a byte string, an array, a map or a set's tag, is not the shortest for
+ * its number, as 18 17 for 23. 0 if all are, or if hgrpc_check refuses the
+ * command. Nothing is refused for it: two commands that differ in their heads
+ * alone ask for the same. */
+uint32_t hgrpc_loose(const uint8_t *command, size_t length);
 
 /* 0: the command's name is `size` bytes from place `at` of the command on.
  * The check's 24, 25 or 26: `at` and `size` are 0. */
@@ -174,7 +182,8 @@ uint32_t hgrpc_board_label(const uint8_t *board, size_t board_length, size_t coi
  * nothing before, between or behind. No key stands twice. Values are items of
  * the subset with at most six levels of containers, for `args` itself is the
  * second of eight. Heads in the pairs needn't be shortest, and go out as they
- * are. For no arguments `count` and `pairs_length` are 0.
+ * are; the command is then written loosely. For no arguments `count` and
+ * `pairs_length` are 0.
  *
  * `request` is an odd id that is not active at the receiver, and `stream` an odd
  * stream. With `begin` the first frame begins the stream, which the receiver
@@ -312,12 +321,15 @@ static inline uint32_t hgrpc_coils_look(const hgrpc_board *board, size_t number,
 
 /* ---- the records in an output ---- */
 
-/* A record. `bytes` point into the output: the whole command, or the payload of
- * the data frame. The next feed into that output overwrites them. */
+/* A record. `bit` is the data bit of a command, and the last bit of data. `loose`
+ * is 1 of a command that is written loosely, as hgrpc_loose has it, and else 0.
+ * `bytes` point into the output: the whole command, or the payload of the data
+ * frame. The next feed into that output overwrites them. */
 typedef struct {
     uint16_t kind;
     uint16_t request;
     uint8_t bit;
+    uint8_t loose;
     const uint8_t *bytes;
     size_t length;
 } hgrpc_record;
@@ -344,7 +356,8 @@ static inline int hgrpc_next_record(const uint8_t *out, size_t written, size_t *
         return 0;
     record->kind = hgrpc_two_bytes(head + 2);
     record->request = hgrpc_two_bytes(head + 4);
-    record->bit = head[6];
+    record->bit = head[6] & 1;
+    record->loose = head[6] >> 1 & 1;
     record->bytes = head + HGRPC_RECORD_HEAD;
     record->length = body - (HGRPC_RECORD_HEAD - 4);
     *place += 4 + body;
@@ -352,7 +365,7 @@ static inline int hgrpc_next_record(const uint8_t *out, size_t written, size_t *
 }
 
 /* Whether the record's request runs now, so that finish answers 0: a command
- * that no data follows, or the last data. */
+ * that no data follows, however it is written, or the last data. */
 static inline int hgrpc_record_runs(const hgrpc_record *record)
 {
     return (record->kind == HGRPC_KIND_COMMAND) == (record->bit == 0);

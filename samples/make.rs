@@ -103,6 +103,24 @@ fn command(name: &str, args: &[(&str, Vec<u8>)]) -> Vec<u8> {
     map(&[(string("name"), string(name)), (string("args"), map(&args))])
 }
 
+// The same item with each head in four bytes behind the first, where it is in the first byte alone. False, true and null stay.
+fn loosely(item: &[u8]) -> Vec<u8> {
+    let mut wide = Vec::new();
+    let mut at = 0;
+    while at < item.len() {
+        let (major, number) = (item[at] >> 5, item[at] & 0x1f);
+        assert!(number < 24, "the number is in the first byte");
+        let content = if major == 2 { usize::from(number) } else { 0 };
+        match major {
+            7 => wide.push(item[at]),
+            _ => wide.extend([major << 5 | 26, 0, 0, 0, number]),
+        }
+        wide.extend(&item[at + 1..][..content]);
+        at += 1 + content;
+    }
+    wide
+}
+
 fn switch(magnet: u64, on: Vec<u8>) -> Vec<u8> {
     command("set", &[("magnet", unsigned(magnet)), ("on", on)])
 }
@@ -165,6 +183,23 @@ fn cut_command() -> Vec<u8> {
     .concat()
 }
 
+// Two clubs send the same commands, the one on stream 1 in the shortest heads and the other on stream 3 in wider ones: one without data,
+// for which the second uses id 3 twice, and one with data.
+fn loose() -> Vec<u8> {
+    let set = set_coil(3, yes());
+    let upload = command("upload", &[("track", unsigned(7))]);
+    [
+        frame(1, 1, BEGIN, NEW, &set),
+        frame(3, 3, BEGIN, NEW, &loosely(&set)),
+        frame(3, 3, NONE, NEW, &loosely(&set)),
+        frame(1, 1, NONE, NEW_DATA, &upload),
+        frame(3, 3, NONE, NEW_DATA, &loosely(&upload)),
+        frame(1, 1, END, DATA_LAST, b"slower"),
+        frame(3, 3, END, DATA_LAST, b"slower"),
+    ]
+    .concat()
+}
+
 // The second command lost a byte on the line, its map's head: the frame ends with the first byte of the next one.
 fn damaged() -> Vec<u8> {
     let mut broken = frame(3, 1, NONE, NEW, &switch(4, no()));
@@ -178,7 +213,8 @@ fn damaged() -> Vec<u8> {
 }
 
 // What crates/receive is tested on: trace T1, settings, a cut command with data and one of another request between its frames, an id
-// used again, a value of each type, and byte strings that can be shown as text and that cannot.
+// used again, a value of each type, byte strings that can be shown as text and that cannot, and a command that is written loosely, first
+// cut in its first head and without data, then with data.
 fn test() -> Vec<u8> {
     let all = command(
         "put",
@@ -190,6 +226,7 @@ fn test() -> Vec<u8> {
         ],
     );
     let few = command("set", &[("x", negative(0)), ("y", array(&[no(), null()]))]);
+    let wide = loosely(&few);
     let edges: [&[u8]; 6] = [b" ~", b"it's", b"a\\b", b"a\x1f", b"a\x7f", b"\xc3\xbc"];
     let shown = command("log", &[("text", array(&edges.map(bytes)))]);
     let hashes = map(&[(string("hashes"), array(&[string("sha1")]))]);
@@ -209,6 +246,10 @@ fn test() -> Vec<u8> {
         frame(1, 1, BEGIN | END, NEW, &moved),
         frame(7, 1, BEGIN, NEW_DATA, &shown),
         frame(7, 1, END, DATA_LAST, b"a\nb"),
+        frame(9, 1, BEGIN, NEW_MORE, &wide[..3]),
+        frame(9, 1, NONE, REST, &wide[3..]),
+        frame(9, 1, NONE, NEW_DATA, &wide),
+        frame(9, 1, END, DATA_LAST, b""),
     ]
     .concat()
 }
@@ -219,6 +260,7 @@ fn main() -> io::Result<()> {
     fs::write(folder.join("two-laptops.capture"), two_laptops())?;
     fs::write(folder.join("coils.capture"), coils())?;
     fs::write(folder.join("cut-command.capture"), cut_command())?;
+    fs::write(folder.join("loose.capture"), loose())?;
     fs::write(folder.join("damaged.capture"), damaged())?;
     io::stdout().write_all(&test())
 }

@@ -37,6 +37,12 @@ archive_program tests/whole_way.rs "$out/whole_way" "$out"
 "$out/whole_way" run 1 2000
 must_fail 'the coils do something else' "$out/whole_way" damaged 1 20
 must_fail 'too seldom' "$out/whole_way" run 1 20
+mkdir -p "$out/wrong/way/whole_way"
+cp tests/whole_way.rs tests/tally.rs "$out/wrong/way"
+cp tests/whole_way/*.rs "$out/wrong/way/whole_way"
+change 's/width != widths\[0\]/width > 1/' tests/whole_way/wish.rs "$out/wrong/way/whole_way/wish.rs"
+archive_program "$out/wrong/way/whole_way.rs" "$out/wrong/way/run" "$out"
+must_fail 'another mark came' "$out/wrong/way/run" run 1 20
 
 if [ "$long" -eq 1 ]; then
     answered=0

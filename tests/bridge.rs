@@ -26,6 +26,13 @@ pub unsafe extern "C" fn second_argument_count(command: *const u8, length: usize
     command::argument_count(from_raw_parts(command, length))
 }
 
+/// # Safety
+/// As above.
+#[no_mangle]
+pub unsafe extern "C" fn second_loose(command: *const u8, length: usize) -> u32 {
+    command::loose(from_raw_parts(command, length)).into()
+}
+
 /// Where a part of the command stands, and its length; 0 and 0 if it is
 /// refused.
 unsafe fn place(command: &[u8], number: u32, part: &[u8], at: *mut usize, size: *mut usize) {

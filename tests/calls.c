@@ -195,6 +195,7 @@ static void accepted(void)
     IS(record.kind, HGRPC_KIND_DATA);
     IS(record.request, 1);
     IS(record.bit, 1);
+    IS(record.loose, 0);
     IS(record.length, 2);
     IS(memcmp(record.bytes, "er", 2), 0);
     IS(hgrpc_record_runs(&record), 1);
@@ -271,6 +272,45 @@ static void counts(void)
     IS(hgrpc_argument_count(BYTES(OFF)), 0);
     IS(hgrpc_argument_count(BYTES("")), 0);
     IS(hgrpc_argument_count(BYTES(ARGUMENTS(SET, "\xa2") ON "\xf5" ON "\xf5")), 0);
+}
+
+#define LOOSE "\xb8\2" NAME "\x44" "args\xa0"
+
+static void marks(void)
+{
+    IS(hgrpc_loose(BYTES(COMMAND)), 0);
+    IS(hgrpc_loose(BYTES(LOOSE)), 1);
+    IS(hgrpc_loose(BYTES(ARGUMENTS(SET, "\xa1") COIL "\x18\x17")), 1);
+    IS(hgrpc_loose(BYTES(ARGUMENTS(SET, "\xa1") COIL "\x18\x18")), 0);
+    IS(hgrpc_loose(BYTES(ARGUMENTS(SET, "\xa1") COIL "\x42\x18\x17")), 0);
+    IS(hgrpc_loose(BYTES(ARGUMENTS(SET, "\xa1") COIL "\xd9\1\2\x80")), 0);
+    IS(hgrpc_loose(BYTES(ARGUMENTS(SET, "\xa1") COIL "\xda\0\0\1\2\x80")), 1);
+    IS(hgrpc_loose(BYTES("")), 0);
+    IS(hgrpc_loose(BYTES("\xb8\2" NAME NAME)), 0);
+}
+
+/* A command, shortest or loose, without data and with data: the record's two fields, and
+ * whether the request runs. */
+static void marked_records(void)
+{
+    unsigned row;
+    for (row = 0; row < 4; row++) {
+        unsigned data = row & 1, loose = row >> 1;
+        const char *command = loose ? LOOSE : COMMAND;
+        size_t length = loose ? sizeof LOOSE - 1 : sizeof COMMAND - 1, place = 0;
+        hgrpc_record record;
+        hgrpc_channel_fresh(&b.state);
+        IS(frame(1, 1, 1, data ? 0x19 : 0x11, (const uint8_t *)command, length), 0);
+        IS(b.out[6], row);
+        IS(hgrpc_next_record(b.out, HGRPC_RECORD_HEAD + length, &place, &record), 1);
+        IS(record.kind, HGRPC_KIND_COMMAND);
+        IS(record.bit, data);
+        IS(record.loose, loose);
+        IS(record.length, length);
+        IS(memcmp(record.bytes, command, length), 0);
+        IS(hgrpc_record_runs(&record), !data);
+        IS(hgrpc_channel_finish(&b.state, 1), data ? 4 : 0);
+    }
 }
 
 /* The board's coil is on or off, and has this label. */
@@ -502,6 +542,7 @@ static void sent_and_received(void)
     IS(record.kind, HGRPC_KIND_COMMAND);
     IS(record.request, 7);
     IS(record.bit, 1);
+    IS(record.loose, 0);
     IS(record.length, 19);
     IS(memcmp(record.bytes, "\xa2" NAME "\x44" "args\xa1\x41k\x05", 19), 0);
     IS(hgrpc_next_record(b.out, fed.written, &place, &record), 1);
@@ -526,6 +567,8 @@ int main(void)
     cut_records();
     lookups();
     counts();
+    marks();
+    marked_records();
     coils();
     refused_commands();
     no_board();

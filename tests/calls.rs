@@ -39,6 +39,7 @@ fn first_trace(piece: usize) {
         kind: Kind::Command,
         request: 1,
         bit: false,
+        loose: false,
         bytes: COMMAND,
     };
     assert!(record.runs());
@@ -118,6 +119,47 @@ fn lookups() {
     assert_eq!(hgrpc::integer(WITH_ARGUMENTS, b"a"), Ok(-1));
     for (key, number) in [(b"d", 6), (b"b", 7), (b"c", 8)] {
         assert_eq!(hgrpc::integer(WITH_ARGUMENTS, key), Err(number));
+    }
+}
+
+/// T1's command in other heads.
+const LOOSE: &[u8] = b"\xb8\x02\x44name\x43set\x44args\xa0";
+
+fn marks() {
+    let with = |item: &[u8]| hgrpc::loose(&[&COMMAND[..15], b"\xa1\x41k", item].concat());
+    assert!(!hgrpc::loose(COMMAND));
+    assert!(hgrpc::loose(LOOSE));
+    assert!(with(b"\x18\x17") && !with(b"\x18\x18") && !with(b"\x42\x18\x17"));
+    assert!(with(b"\xda\0\0\x01\x02\x80") && !with(b"\xd9\x01\x02\x80"));
+    assert!(!hgrpc::loose(b""));
+    assert!(!hgrpc::loose(&[LOOSE, b"\0"].concat()));
+}
+
+/// A command, shortest or loose, without data and with data.
+fn marked_records() {
+    let mut work = vec![0; WORK];
+    let mut out = vec![0; OUTPUT];
+    for (third, last, bytes) in [
+        (0, 0x11, COMMAND),
+        (1, 0x19, COMMAND),
+        (2, 0x11, LOOSE),
+        (3, 0x19, LOOSE),
+    ] {
+        let mut state = State::fresh();
+        let input = frame(1, 1, last, bytes);
+        let answer = state.feed(&mut work, &input, &mut out);
+        assert_eq!(answer, fed(0, input.len(), 7 + bytes.len()));
+        assert_eq!(out[6], third);
+        let record = Record {
+            kind: Kind::Command,
+            request: 1,
+            bit: last == 0x19,
+            loose: bytes == LOOSE,
+            bytes,
+        };
+        assert!(records(&out[..answer.written]).eq([record]));
+        assert_eq!(record.runs(), last == 0x11);
+        assert_eq!(state.finish(1), if record.runs() { 0 } else { 4 });
     }
 }
 
@@ -290,6 +332,8 @@ fn main() {
     refused_calls();
     cut_records();
     lookups();
+    marks();
+    marked_records();
     coils();
     no_board();
     sends();

@@ -43,6 +43,11 @@ change 's/coil->label = board->bytes + at;/coil->label = board->bytes;/' include
 gcc -std=c99 -I"$out/wrong/look" -o "$out/wrong/calls" tests/calls.c "$archive"
 must_fail '^calls: line' "$out/wrong/calls"
 
+mkdir "$out/wrong/third"
+change 's/record->bit = head\[6\] & 1;/record->bit = head[6];/' include/hgrpc.h "$out/wrong/third/hgrpc.h"
+gcc -std=c99 -I"$out/wrong/third" -o "$out/wrong/calls" tests/calls.c "$archive"
+must_fail '^calls: line' "$out/wrong/calls"
+
 # The bindings, taken in as a module.
 rust -o "$out/calls_rust" -L native=target/staticlib -l static=hgrpc tests/calls.rs
 "$out/calls_rust"
@@ -51,6 +56,9 @@ change 's/(self\.kind == Kind::Command) != self\.bit/!self.bit/' bindings/hgrpc.
 change 's|\.\./bindings/|bindings/|' tests/calls.rs "$out/wrong/calls.rs"
 rust -o "$out/wrong/calls_rust" -L native=target/staticlib -l static=hgrpc "$out/wrong/calls.rs"
 must_fail 'assertion failed: record.runs()' "$out/wrong/calls_rust"
+change 's/bit: third & 1 == 1/bit: third == 1/' bindings/hgrpc.rs "$out/wrong/bindings/hgrpc.rs"
+rust -o "$out/wrong/calls_rust" -L native=target/staticlib -l static=hgrpc "$out/wrong/calls.rs"
+must_fail 'assertion failed: records(' "$out/wrong/calls_rust"
 change 's/request\.data\.is_some(),/true,/' bindings/hgrpc.rs "$out/wrong/bindings/hgrpc.rs"
 rust -o "$out/wrong/calls_rust" -L native=target/staticlib -l static=hgrpc "$out/wrong/calls.rs"
 must_fail 'assertion `left == right` failed' "$out/wrong/calls_rust"
@@ -100,7 +108,7 @@ must_fail 'does not say of 40' example_says 1 examples/board.c 'case N: return "
 # The archive has these calls and no others, and needs no more than this.
 calls=$(nm -g --defined-only "$archive" | awk '$2 == "T" { print $3 }' | sort | tr '\n' ' ')
 wanted="hgrpc_argument hgrpc_argument_count hgrpc_board_apply hgrpc_board_first hgrpc_board_label hgrpc_board_switch \
-hgrpc_check hgrpc_feed hgrpc_finish hgrpc_fresh hgrpc_integer hgrpc_name hgrpc_send "
+hgrpc_check hgrpc_feed hgrpc_finish hgrpc_fresh hgrpc_integer hgrpc_loose hgrpc_name hgrpc_send "
 needs=$(nm -u "$archive" | awk '$1 == "U" { print $2 }' | sort | tr '\n' ' ')
 [ "$calls" = "$wanted" ] || { echo "the archive has the calls $calls"; exit 1; }
 [ "$needs" = "memcpy memset " ] || { echo "the archive needs $needs"; exit 1; }

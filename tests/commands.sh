@@ -42,23 +42,27 @@ children+=("$run_c")
 
 for copy in "${wrong_readers[@]}"; do
     build_compare_rust "$copy"
-    must_fail '^compare (Rust): difference at' "$copy/compare_rust" "$commands"
+    must_fail '^compare (Rust): difference at seed' "$copy/compare_rust" "$commands"
 done
-wrong=$out/wrong/nine_levels
-build_compare_c "$wrong"
-must_fail '^compare (C): difference at' "$wrong/compare_c" "$commands"
+for wrong in "$out/wrong/nine_levels" "$out/wrong/tags_forgotten"; do
+    build_compare_c "$wrong"
+    must_fail '^compare (C): difference at' "$wrong/compare_c" "$commands"
+done
 must_fail 'in less than 1%' "$out/compare_rust" 3
 must_fail 'in less than 1%' "$out/compare_c" 3
+must_fail 'came up too seldom' "$out/compare_rust" 1000
 
 build_desk_rust "$out"
 build_desk_c "$out"
 "$out/desk_rust" 5000 3
 "$out/desk_c" 5000 4
 "$out/desk_c" 2000 5 keys
-build_desk_rust "$wrong"
-build_desk_c "$wrong"
-must_fail '^desk (Rust): difference at' "$wrong/desk_rust" 5000 3
-must_fail '^desk (C): difference at' "$wrong/desk_c" 5000 4
+for wrong in "$out/wrong/nine_levels" "$out/wrong/tags_forgotten"; do
+    build_desk_rust "$wrong"
+    build_desk_c "$wrong"
+    must_fail '^desk (Rust): difference at' "$wrong/desk_rust" 5000 3
+    must_fail '^desk (C): difference at' "$wrong/desk_c" 5000 4
+done
 must_fail 'came up' "$out/desk_rust" 3 3
 must_fail 'came up' "$out/desk_c" 3 4
 

@@ -33,7 +33,7 @@ struct part {
 };
 
 struct answers {
-    uint32_t check;
+    uint32_t check, loose;
     uint64_t count;
     struct part name, argument;
     uint32_t integer_number;
@@ -44,15 +44,16 @@ struct answers {
 struct side {
     uint32_t (*check)(const uint8_t *, size_t);
     uint64_t (*count)(const uint8_t *, size_t);
+    uint32_t (*loose)(const uint8_t *, size_t);
     uint32_t (*name)(const uint8_t *, size_t, size_t *, size_t *);
     uint32_t (*argument)(const uint8_t *, size_t, const uint8_t *, size_t, size_t *, size_t *);
     uint32_t (*integer)(const uint8_t *, size_t, const uint8_t *, size_t, int64_t *);
 };
 
 static const struct side archive_calls = {
-    hgrpc_check, hgrpc_argument_count, hgrpc_name, hgrpc_argument, hgrpc_integer};
+    hgrpc_check, hgrpc_argument_count, hgrpc_loose, hgrpc_name, hgrpc_argument, hgrpc_integer};
 static const struct side second_calls = {
-    second_check, second_argument_count, second_name, second_argument, second_integer};
+    second_check, second_argument_count, second_loose, second_name, second_argument, second_integer};
 
 static struct answers ask(const struct side *side, struct slice command, struct slice key)
 {
@@ -62,6 +63,7 @@ static struct answers ask(const struct side *side, struct slice command, struct 
     memset(&a, 0x55, sizeof a);
     a.check = side->check(c, length);
     a.count = side->count(c, length);
+    a.loose = side->loose(c, length);
     a.name.number = side->name(c, length, &a.name.at, &a.name.size);
     a.argument.number = side->argument(c, length, k, key.length, &a.argument.at, &a.argument.size);
     a.integer_number = side->integer(c, length, k, key.length, &a.integer);
@@ -75,7 +77,7 @@ static int equal_parts(struct part one, struct part other)
 
 static int equal(struct answers one, struct answers other)
 {
-    return one.check == other.check && one.count == other.count
+    return one.check == other.check && one.count == other.count && one.loose == other.loose
         && equal_parts(one.name, other.name)
         && equal_parts(one.argument, other.argument)
         && one.integer_number == other.integer_number && one.integer == other.integer;
@@ -83,9 +85,9 @@ static int equal(struct answers one, struct answers other)
 
 static void print_answers(const char *side, struct answers a)
 {
-    printf("%s check %" PRIu32 ", count %" PRIu64 ", name %" PRIu32 " %zu %zu, argument %" PRIu32
-           " %zu %zu, integer %" PRIu32 " %" PRId64 "\n",
-           side, a.check, a.count, a.name.number, a.name.at, a.name.size, a.argument.number,
+    printf("%s check %" PRIu32 ", count %" PRIu64 ", loose %" PRIu32 ", name %" PRIu32
+           " %zu %zu, argument %" PRIu32 " %zu %zu, integer %" PRIu32 " %" PRId64 "\n",
+           side, a.check, a.count, a.loose, a.name.number, a.name.at, a.name.size, a.argument.number,
            a.argument.at, a.argument.size, a.integer_number, a.integer);
 }
 
@@ -173,9 +175,30 @@ static void fail_if_rare(const struct count *count, uint64_t commands)
     }
 }
 
-/* Adds to `lacking` if the command is accepted without `args`. */
+/* How many commands were accepted without `args`, had several arguments, and
+ * were accepted with and without a loose head. */
+struct met {
+    uint64_t lacking, several, loose, shortest;
+};
+
+static void add_met(struct met *met, struct answers answers, struct slice command)
+{
+    met->lacking += second_lacks_args(command.bytes, command.length);
+    met->several += answers.count > 1;
+    met->loose += answers.loose == 1;
+    met->shortest += answers.check == 0 && answers.loose == 0;
+}
+
+static void print_met(const struct met *met)
+{
+    printf("accepted without args    %" PRIu64 "\n", met->lacking);
+    printf("several arguments        %" PRIu64 "\n", met->several);
+    printf("accepted and loose       %" PRIu64 "\n", met->loose);
+    printf("accepted and shortest    %" PRIu64 "\n", met->shortest);
+}
+
 static struct answers compare(struct fenced for_command, struct fenced for_key, uint64_t seed,
-                              uint64_t index, uint64_t *lacking)
+                              uint64_t index, struct met *met)
 {
     struct generated *generated = generated_new(seed, index);
     struct slice command, key;
@@ -194,7 +217,7 @@ static struct answers compare(struct fenced for_command, struct fenced for_key, 
     }
     if (!same_bytes(lent, command) || !same_bytes(lent_key, key))
         fail(command, key, seed, index, "the lent bytes were changed");
-    *lacking += second_lacks_args(command.bytes, command.length);
+    add_met(met, archive, command);
     generated_free(generated);
     return archive;
 }
@@ -211,25 +234,25 @@ int main(int argc, char **argv)
     };
     struct fenced for_command = make_fenced(1 << 18);
     struct fenced for_key = make_fenced(1 << 14);
-    uint64_t lacking = 0, several = 0;
+    struct met met = {0, 0, 0, 0};
 
     printf("compare (C): seed %" PRIu64 "\n", seed);
     for (uint64_t index = 0; index < commands; index++) {
-        struct answers answers = compare(for_command, for_key, seed, index, &lacking);
+        struct answers answers = compare(for_command, for_key, seed, index, &met);
         add(&counts[0], answers.check);
         add(&counts[1], answers.name.number);
         add(&counts[2], answers.argument.number);
         add(&counts[3], answers.integer_number);
-        several += answers.count > 1;
     }
     for (int i = 0; i < CALLS; i++)
         print_count(&counts[i]);
-    printf("accepted without args    %" PRIu64 "\n", lacking);
-    printf("several arguments        %" PRIu64 "\n", several);
+    print_met(&met);
     for (int i = 0; i < CALLS; i++)
         fail_if_rare(&counts[i], commands);
-    if (lacking * 50 < commands || several * 10 < commands) {
-        printf("compare (C): accepted without args in less than 2%%, or several arguments in less than 10%%\n");
+    if (met.lacking * 50 < commands || met.several * 10 < commands || met.loose * 10 < commands
+        || met.shortest * 20 < commands) {
+        printf("compare (C): accepted without args in less than 2%%, with several arguments or loose in less "
+               "than 10%%, or shortest in less than 5%%\n");
         return 1;
     }
     printf("compare (C): %" PRIu64 " commands, no difference\n", commands);

@@ -1,8 +1,17 @@
 //! Compares the archive's calls on commands with the second implementation.
 //!
 //!     compare [commands [seed]]
+//!
+//! It also counts what the commands meet, and fails if something that it counts
+//! comes up too seldom.
+
+#[path = "counts.rs"]
+mod counts;
+#[path = "compare/loose.rs"]
+mod loose;
 
 use generate::{fixed, Case};
+use loose::Coverage;
 use second::command;
 use std::process::exit;
 
@@ -10,6 +19,7 @@ use std::process::exit;
 struct Answers {
     check: u32,
     count: u64,
+    loose: bool,
     name: Result<Vec<u8>, u32>,
     argument: Result<Vec<u8>, u32>,
     integer: Result<i64, u32>,
@@ -33,6 +43,7 @@ fn second_answers(Case { command, key }: &Case) -> Answers {
     Answers {
         check,
         count: command::argument_count(command),
+        loose: command::loose(command),
         name: numbered(check, command::name(command).to_vec()),
         argument: numbered(command::argument_number(command, key), argument),
         integer: numbered(
@@ -49,6 +60,7 @@ fn archive_answers(case: &Case) -> Answers {
     let answers = Answers {
         check: hgrpc::check(&command),
         count: hgrpc::argument_count(&command),
+        loose: hgrpc::loose(&command),
         name: hgrpc::name(&command).map(<[u8]>::to_vec),
         argument: hgrpc::argument(&command, &key).map(<[u8]>::to_vec),
         integer: hgrpc::integer(&command, &key),
@@ -95,6 +107,7 @@ fn traces() {
     let accepted = |item: &[u8], integer| Answers {
         check: 0,
         count: 1,
+        loose: false,
         name: Ok(b"set".to_vec()),
         argument: Ok(item.to_vec()),
         integer,
@@ -117,6 +130,7 @@ fn refused(number: u32) -> Answers {
     Answers {
         check: number,
         count: 0,
+        loose: false,
         name: Err(number),
         argument: Err(number),
         integer: Err(number),
@@ -138,6 +152,7 @@ fn without_args() {
     let accepted = || Answers {
         check: 0,
         count: 0,
+        loose: false,
         name: Ok(b"off".to_vec()),
         argument: Err(6),
         integer: Err(6),
@@ -151,6 +166,42 @@ fn without_args() {
     ] {
         let key = b"k".to_vec();
         compare_to(&Case { command, key }, "E1", &expected);
+    }
+}
+
+/// E5's rule at each width: the largest number that a shorter head holds, and the
+/// least that it does not, as the argument; and the tag 258 in each width.
+fn at_each_width() {
+    let items: [(&[u8], bool); 13] = [
+        (b"\x17", false),
+        (b"\x18\x17", true),
+        (b"\x18\x18", false),
+        (b"\x19\0\xff", true),
+        (b"\x19\x01\0", false),
+        (b"\x1a\0\0\xff\xff", true),
+        (b"\x1a\0\x01\0\0", false),
+        (b"\x1b\0\0\0\0\xff\xff\xff\xff", true),
+        (b"\x1b\0\0\0\x01\0\0\0\0", false),
+        (b"\xf6", false),
+        (b"\xd9\x01\x02\x80", false),
+        (b"\xda\0\0\x01\x02\x80", true),
+        (b"\xdb\0\0\0\0\0\0\x01\x02\x80", true),
+    ];
+    for (item, expected) in items {
+        let case = fixed::with_argument(item);
+        let answers = compare(&case, "E5");
+        if (answers.check, answers.loose) != (0, expected) {
+            fail(&case, &format!("E5 is {answers:?}"));
+        }
+    }
+}
+
+/// RFC 7049 writes its examples with the shortest heads.
+fn published() {
+    for case in fixed::published() {
+        if compare(&case, "an example of RFC 7049").loose {
+            fail(&case, "an example of RFC 7049 is loose");
+        }
     }
 }
 
@@ -201,58 +252,89 @@ fn argument(place: usize, default: u64) -> u64 {
         .map_or(default, |text| text.parse().expect("a number"))
 }
 
-/// The calls on the commands of a seed, and how many of these were accepted
-/// without `args`, and had several arguments.
-fn generated(seed: u64, commands: u64, counts: &mut [Count]) -> (u64, u64) {
-    let (mut lacking, mut several) = (0, 0);
-    for index in 0..commands {
-        let case = generate::case(seed, index);
-        let answers = compare(&case, &format!("seed {seed}, index {index}"));
+/// What the commands of a seed meet.
+struct Met {
+    counts: [Count; 4],
+    /// How many were accepted without `args`, and how many had several arguments.
+    lacking: u64,
+    several: u64,
+    loose: Coverage,
+}
+
+impl Met {
+    fn new() -> Met {
+        Met {
+            counts: [
+                Count::new("hgrpc_check", 4),
+                Count::new("hgrpc_name", 4),
+                Count::new("hgrpc_argument", 5),
+                Count::new("hgrpc_integer", 7),
+            ],
+            lacking: 0,
+            several: 0,
+            loose: Coverage::new(),
+        }
+    }
+
+    fn add(&mut self, command: &[u8], answers: &Answers) {
         let numbers = [
             answers.check,
             number(&answers.name),
             number(&answers.argument),
             number(&answers.integer),
         ];
-        for (count, number) in counts.iter_mut().zip(numbers) {
+        for (count, number) in self.counts.iter_mut().zip(numbers) {
             count.add(number);
         }
-        lacking += u64::from(command::lacks_args(&case.command));
-        several += u64::from(answers.count > 1);
+        self.lacking += u64::from(command::lacks_args(command));
+        self.several += u64::from(answers.count > 1);
+        self.loose.command(command, answers.check, answers.loose);
     }
-    (lacking, several)
+
+    fn print(&self) {
+        self.counts.iter().for_each(Count::print);
+        println!("accepted without args    {}", self.lacking);
+        println!("several arguments        {}", self.several);
+        self.loose.print();
+    }
+
+    /// What came up too seldom.
+    fn rare(&self, commands: u64) -> Option<String> {
+        for count in &self.counts {
+            if let Some(number) = count.rare(commands) {
+                let call = count.call;
+                return Some(format!("{call} gave {number} in less than 1%"));
+            }
+        }
+        if self.lacking * 50 < commands || self.several * 10 < commands {
+            let text =
+                "accepted without args in less than 2%, or several arguments in less than 10%";
+            return Some(text.to_string());
+        }
+        let name = self.loose.rare(commands)?;
+        Some(format!(
+            "\"{name}\" came up too seldom in {commands} commands"
+        ))
+    }
 }
 
 fn main() {
     let commands = argument(1, 300_000);
     let seed = argument(2, 1);
     println!("compare (Rust): seed {seed}");
+    let mut met = Met::new();
+    for index in 0..commands {
+        let case = generate::case(seed, index);
+        let answers = compare(&case, &format!("seed {seed}, index {index}"));
+        met.add(&case.command, &answers);
+    }
     traces();
     without_args();
-    for case in fixed::published() {
-        compare(&case, "an example of RFC 7049");
-    }
-    let mut counts = [
-        Count::new("hgrpc_check", 4),
-        Count::new("hgrpc_name", 4),
-        Count::new("hgrpc_argument", 5),
-        Count::new("hgrpc_integer", 7),
-    ];
-    let (lacking, several) = generated(seed, commands, &mut counts);
-    for count in &counts {
-        count.print();
-    }
-    println!("accepted without args    {lacking}");
-    println!("several arguments        {several}");
-    for count in &counts {
-        if let Some(number) = count.rare(commands) {
-            let call = count.call;
-            println!("compare (Rust): {call} gave {number} in less than 1%");
-            exit(1);
-        }
-    }
-    if lacking * 50 < commands || several * 10 < commands {
-        println!("compare (Rust): accepted without args in less than 2%, or several arguments in less than 10%");
+    at_each_width();
+    published();
+    met.print();
+    if let Some(reason) = met.rare(commands) {
+        println!("compare (Rust): {reason}");
         exit(1);
     }
     println!("compare (Rust): {commands} commands, no difference");

@@ -13,7 +13,7 @@
 #include "second.h"
 
 struct answers {
-    uint32_t check, argument, integer;
+    uint32_t check, loose, argument, integer;
     int64_t value;
     uint64_t count;
 };
@@ -23,6 +23,7 @@ static struct answers archive_answers(const uint8_t *command, size_t length,
 {
     struct answers answers;
     answers.check = command_check(command, length);
+    answers.loose = command_loose(command, length);
     answers.argument = command_argument_number(command, length, key, key_length);
     answers.integer = command_integer_number(command, length, key, key_length);
     answers.value = command_integer(command, length, key, key_length);
@@ -36,6 +37,7 @@ static struct answers second_answers(const uint8_t *command, size_t length,
     size_t at, size;
     struct answers answers;
     answers.check = second_check(command, length);
+    answers.loose = second_loose(command, length);
     answers.argument = second_argument(command, length, key, key_length, &at, &size);
     answers.integer = second_integer(command, length, key, key_length, &answers.value);
     answers.count = second_argument_count(command, length);
@@ -44,8 +46,13 @@ static struct answers second_answers(const uint8_t *command, size_t length,
 
 typedef struct generated *generator(uint64_t seed, uint64_t index);
 
-/* Whether both answer alike. Marks the number of each lookup in `met`. */
-static int alike(generator *make, uint64_t seed, uint64_t index, int met[32])
+/* What came up: the number of a lookup, and `loose` of an accepted command. */
+struct met {
+    int numbers[32], loose[2];
+};
+
+/* Whether both answer alike. */
+static int alike(generator *make, uint64_t seed, uint64_t index, struct met *met)
 {
     size_t length, key_length;
     struct generated *generated = make(seed, index);
@@ -54,8 +61,10 @@ static int alike(generator *make, uint64_t seed, uint64_t index, int met[32])
     struct answers one = archive_answers(command, length, key, key_length);
     struct answers other = second_answers(command, length, key, key_length);
     generated_free(generated);
-    met[one.integer % 32] = 1;
-    return one.check == other.check && one.argument == other.argument
+    met->numbers[one.integer % 32] = 1;
+    if (one.check == 0)
+        met->loose[one.loose % 2] = 1;
+    return one.check == other.check && one.loose == other.loose && one.argument == other.argument
         && one.integer == other.integer && one.value == other.value && one.count == other.count;
 }
 
@@ -66,15 +75,20 @@ int main(int argc, char **argv)
     uint64_t seed = argc > 2 ? strtoull(argv[2], NULL, 10) : 0;
     int keys = argc > 3 && strcmp(argv[3], "keys") == 0;
     generator *make = keys ? generated_keys_new : generated_new;
-    int met[32] = {0};
+    struct met met = {{0}, {0}};
     for (uint64_t index = 0; index < commands; index++)
-        if (!alike(make, seed, index, met)) {
+        if (!alike(make, seed, index, &met)) {
             printf("desk (C): difference at seed %" PRIu64 ", index %" PRIu64 "\n", seed, index);
             return 1;
         }
     for (size_t i = 0; i < sizeof numbers / sizeof *numbers; i++)
-        if (!met[numbers[i]]) {
+        if (!met.numbers[numbers[i]]) {
             printf("desk (C): %d never came up\n", numbers[i]);
+            return 1;
+        }
+    for (int loose = 0; loose < 2; loose++)
+        if (!met.loose[loose]) {
+            printf("desk (C): loose %d never came up\n", loose);
             return 1;
         }
     printf("desk (C): %" PRIu64 " commands, no difference\n", commands);

@@ -13,6 +13,7 @@ type Lookup<T> = unsafe extern "C" fn(*const u8, usize, *const u8, usize) -> T;
 extern "C" {
     fn command_check(command: *const u8, length: usize) -> u32;
     fn command_argument_count(command: *const u8, length: usize) -> u64;
+    fn command_loose(command: *const u8, length: usize) -> u32;
     fn command_argument_number(c: *const u8, n: usize, key: *const u8, size: usize) -> u32;
     fn command_integer_number(c: *const u8, n: usize, key: *const u8, size: usize) -> u32;
     fn command_integer(c: *const u8, n: usize, key: *const u8, size: usize) -> i64;
@@ -28,32 +29,46 @@ fn count(command: &[u8]) -> u64 {
     unsafe { command_argument_count(command.as_ptr(), command.len()) }
 }
 
+fn loose(command: &[u8]) -> u32 {
+    // The pointer comes with its own length.
+    unsafe { command_loose(command.as_ptr(), command.len()) }
+}
+
 fn look_up<T>(call: Lookup<T>, Case { command, key }: &Case) -> T {
     // Each pointer comes with its own length.
     unsafe { call(command.as_ptr(), command.len(), key.as_ptr(), key.len()) }
 }
 
-/// The check's number, the lookups', the integer, and the number of arguments.
-type Answers = (u32, u32, u32, i64, u64);
+#[derive(Debug, PartialEq)]
+struct Answers {
+    check: u32,
+    argument: u32,
+    integer: u32,
+    value: i64,
+    count: u64,
+    loose: u32,
+}
 
 fn archive_answers(case: &Case) -> Answers {
-    (
-        check(&case.command),
-        look_up(command_argument_number, case),
-        look_up(command_integer_number, case),
-        look_up(command_integer, case),
-        count(&case.command),
-    )
+    Answers {
+        check: check(&case.command),
+        argument: look_up(command_argument_number, case),
+        integer: look_up(command_integer_number, case),
+        value: look_up(command_integer, case),
+        count: count(&case.command),
+        loose: loose(&case.command),
+    }
 }
 
 fn second_answers(Case { command, key }: &Case) -> Answers {
-    (
-        command::check(command),
-        command::argument_number(command, key),
-        command::integer_number(command, key),
-        command::integer(command, key),
-        command::argument_count(command),
-    )
+    Answers {
+        check: command::check(command),
+        argument: command::argument_number(command, key),
+        integer: command::integer_number(command, key),
+        value: command::integer(command, key),
+        count: command::argument_count(command),
+        loose: command::loose(command).into(),
+    }
 }
 
 fn fail(reason: &str) -> ! {
@@ -66,7 +81,7 @@ fn main() {
     let (Some(commands), Some(seed)) = (argument(1), argument(2)) else {
         fail("COMMANDS SEED");
     };
-    let mut met = BTreeSet::new();
+    let (mut met, mut accepted) = (BTreeSet::new(), BTreeSet::new());
     for index in 0..commands {
         let case = generate::case(seed, index);
         let (archive, second) = (archive_answers(&case), second_answers(&case));
@@ -75,10 +90,16 @@ fn main() {
                 "difference at seed {seed}, index {index}: {archive:?}, not {second:?}"
             ));
         }
-        met.insert(archive.2);
+        met.insert(archive.integer);
+        if archive.check == 0 {
+            accepted.insert(archive.loose);
+        }
     }
     if met != BTreeSet::from([0, 6, 7, 8, 24, 25, 26]) {
         fail(&format!("only {met:?} came up"));
+    }
+    if accepted != BTreeSet::from([0, 1]) {
+        fail(&format!("only loose {accepted:?} came up"));
     }
     println!("desk (Rust): {commands} commands, no difference");
 }

@@ -54,7 +54,7 @@ impl Sides {
 }
 
 /// The calls on a command, as lines.
-fn lookups(seed: u64, index: u64) -> [String; 5] {
+fn lookups(seed: u64, index: u64) -> [String; 6] {
     let case = generate::case(seed, index);
     let (command, key) = (to_hex(&case.command), to_hex(&case.key));
     [
@@ -63,6 +63,7 @@ fn lookups(seed: u64, index: u64) -> [String; 5] {
         format!("arg {command} {key}"),
         format!("int {command} {key}"),
         format!("count {command}"),
+        format!("loose {command}"),
     ]
 }
 

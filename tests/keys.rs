@@ -21,16 +21,19 @@ use coverage::Coverage;
 use generate::{key_command, Case};
 use second::command;
 use second::replay::to_hex;
+use second::value::is_loose;
 use std::io::{stdout, BufWriter, Result, Write};
 use std::process::exit;
 
-/// The check's number, the number of arguments, and an integer or its number.
-type Answers = (u32, u64, std::result::Result<i64, u32>);
+/// The check's number, the number of arguments, whether the command is loose, and
+/// an integer or its number.
+type Answers = (u32, u64, bool, std::result::Result<i64, u32>);
 
 fn archive_answers(Case { command, key }: &Case) -> Answers {
     (
         hgrpc::check(command),
         hgrpc::argument_count(command),
+        hgrpc::loose(command),
         hgrpc::integer(command, key),
     )
 }
@@ -38,10 +41,11 @@ fn archive_answers(Case { command, key }: &Case) -> Answers {
 /// A command is read once, for some are long.
 fn second_answers(Case { command, key }: &Case) -> Answers {
     match command::read(command) {
-        Err(refusal) => (refusal.number(), 0, Err(refusal.number())),
+        Err(refusal) => (refusal.number(), 0, false, Err(refusal.number())),
         Ok(read) => (
             0,
             read.args.as_ref().map_or(0, |args| args.len() as u64),
+            is_loose(command),
             read.integer(key).map_err(command::Refusal::number),
         ),
     }

@@ -46,6 +46,9 @@ cat crates/receive/stdin | "$receive" | cmp - crates/receive/stdout
 "$out/programs" captures "$receive" 1 "$captures"
 must_fail 'and not$' "$wrong_notation/programs" captures "$receive" 1 "$captures"
 must_fail 'and not$' "$wrong_notation/programs" samples "$receive" samples/mercurial.capture
+for copy in "$wrong_finish" "$wrong_shown"; do
+    must_fail 'and not$' "$copy/programs" samples "$receive" samples/loose.capture
+done
 answered=0
 "$out/programs" garbled 1 "$garbled" >"$out/lines"
 compare_lines "$out/lines" "$out/second_replay"
@@ -57,6 +60,8 @@ wide=$(grep -acE '^send .* (65536|18446744073709551616) ' "$out/lines")
 [ "$wide" -ge 20 ] || { echo "only $wide lines send a number that does not fit"; exit 1; }
 boarded=$(grep -acE '^board (0|4[0-3])$' "$out/replay.answers")
 [ "$boarded" -ge 200 ] || { echo "only $boarded of the damaged lines are commands for the board"; exit 1; }
+marked=$(grep -acE '^loose 1$' "$out/replay.answers")
+[ "$marked" -ge 100 ] || { echo "only $marked of the damaged lines are loose commands"; exit 1; }
 echo "tests: $answered answers to damaged lines, $bad of them bad, each as the second program's"
 
 # A closed output ends a program on input without end: by the signal (status
@@ -126,24 +131,24 @@ reads_back() {
         return 1
     }
 }
-reads_back "command 1 data 0 name 'off' args {}" off
-reads_back "command 1 data 0 name 'a' args {'x': -18446744073709551616, 'y': 18446744073709551615, 'z': 7, 'w': 0}" \
+reads_back "command 1 data 0 loose 0 name 'off' args {}" off
+reads_back "command 1 data 0 loose 0 name 'a' args {'x': -18446744073709551616, 'y': 18446744073709551615, 'z': 7, 'w': 0}" \
     a x=-18446744073709551616 y=18446744073709551615 z=007 w=-0
-reads_back "command 1 data 0 name 'a' args {'f': false, 'n': null, 't': 'text', 'e': '', 'm': '=', 'd': '-', 'p': '+3'}" \
+reads_back "command 1 data 0 loose 0 name 'a' args {'f': false, 'n': null, 't': 'text', 'e': '', 'm': '=', 'd': '-', 'p': '+3'}" \
     a f=false n=null t=text e= m== d=- p=+3
-reads_back "command 1 data 0 name 'a' args {'s': '12', 't': 'true', 'h': h'00ff', 'n': '', 'q': h'27'}" \
+reads_back "command 1 data 0 loose 0 name 'a' args {'s': '12', 't': 'true', 'h': h'00ff', 'n': '', 'q': h'27'}" \
     a "s='12'" "t='true'" "h=h'00Ff'" "n=''" "q='"
-reads_back "command 65535 data 0 name '--x' args {'--y': 1}" --stream 255 --size 1 --request 65535 -- --x --y=1
-reads_back "command 3 data 1 name 'up' args {'track': 7}
+reads_back "command 65535 data 0 loose 0 name '--x' args {'--y': 1}" --stream 255 --size 1 --request 65535 -- --x --y=1
+reads_back "command 3 data 1 loose 0 name 'up' args {'track': 7}
 data 3 last 0 4 bytes 'slow'
 data 3 last 1 2 bytes 'er'" --request 3 --size 4 up --data - track=7 < <(printf slower)
-reads_back "command 1 data 1 name 'up' args {}
+reads_back "command 1 data 1 loose 0 name 'up' args {}
 data 1 last 1 0 bytes ''" up --data /dev/null
 printed=$({ "$send" --no-end a && "$send" --no-begin b && "$send" c; } | "$receive")
-[ "$printed" = "command 1 data 0 name 'a' args {}
-command 1 data 0 name 'b' args {}
-command 1 data 0 name 'c' args {}" ] || { printf 'three sends become\n%s\n' "$printed"; exit 1; }
-must_fail 'and not$' reads_back "command 1 data 0 name 'off' args {}" on
+[ "$printed" = "command 1 data 0 loose 0 name 'a' args {}
+command 1 data 0 loose 0 name 'b' args {}
+command 1 data 0 loose 0 name 'c' args {}" ] || { printf 'three sends become\n%s\n' "$printed"; exit 1; }
+must_fail 'and not$' reads_back "command 1 data 0 loose 0 name 'off' args {}" on
 
 # What is wrong is said in one line, and nothing is written.
 send_says() {

@@ -10,15 +10,16 @@
 mod tally;
 
 use generate::{Random, Sending};
-use hgrpc::{records, send, Kind, Request, OUTPUT, WORK};
+use hgrpc::{records, send, Kind, Record, Request, OUTPUT, WORK};
 use second::bytes;
+use second::command::loose;
 use second::sender;
 use second::state::{Phase, Slot, State, SLOTS};
 use second::value::{read_entries, Value};
 use std::process::exit;
 use tally::Tally;
 
-const MET: [&str; 11] = [
+const MET: [&str; 15] = [
     "a fresh channel",
     "one slot free",
     "the first slot in use",
@@ -30,6 +31,10 @@ const MET: [&str; 11] = [
     "no data",
     "empty data",
     "data in several records",
+    "loose pairs without data",
+    "loose pairs with data",
+    "shortest pairs without data",
+    "shortest pairs with data",
 ];
 
 /// The bytes that are written, if the request is accepted.
@@ -149,6 +154,7 @@ fn judge(sending: &Sending, joined: &[u8], tally: &mut Tally) -> Result<(), Stri
     let is_command = first.kind == Kind::Command && first.bytes == wanted;
     must(is_command, "another command came")?;
     must(first.bit == sending.data.is_some(), "another data bit came")?;
+    mark(sending, &first, tally)?;
     let rest: Vec<_> = read.collect();
     let lengths: usize = rest.iter().map(|record| 7 + record.bytes.len()).sum();
     must(
@@ -159,6 +165,7 @@ fn judge(sending: &Sending, joined: &[u8], tally: &mut Tally) -> Result<(), Stri
     for (place, record) in (1..).zip(&rest) {
         must(record.kind == Kind::Data, "a second command came")?;
         must(record.bit == (place == rest.len()), "another last bit came")?;
+        must(!record.loose, "data came with a mark")?;
         data.extend(record.bytes);
     }
     let same = rest.iter().all(|record| record.request == sending.request);
@@ -174,6 +181,24 @@ fn judge(sending: &Sending, joined: &[u8], tally: &mut Tally) -> Result<(), Stri
     tally.add_if(sending.data.as_deref() == Some(b""), "empty data");
     tally.add_if(rest.len() > 1, "data in several records");
     look_up(sending, first.bytes)
+}
+
+/// The command is marked exactly if the pairs are loose, for the heads around
+/// them are shortest.
+fn mark(sending: &Sending, first: &Record, tally: &mut Tally) -> Result<(), String> {
+    let loose = loose(first.bytes);
+    must(loose || !sending.wide, "wide heads, and it is not loose")?;
+    must(first.loose == loose, "another mark came")?;
+    tally.add_if(
+        true,
+        match (loose, first.bit) {
+            (true, false) => "loose pairs without data",
+            (true, true) => "loose pairs with data",
+            (false, false) => "shortest pairs without data",
+            (false, true) => "shortest pairs with data",
+        },
+    );
+    Ok(())
 }
 
 /// The name and each argument, by the archive's lookups.

@@ -10,8 +10,10 @@
 uint32_t second_check(const uint8_t *command, size_t length);
 /* 1 if the command passes the check and has no `args`, else 0. */
 uint32_t second_lacks_args(const uint8_t *command, size_t length);
-/* As hgrpc_argument_count, hgrpc_name, hgrpc_argument and hgrpc_integer answer. */
+/* As hgrpc_argument_count, hgrpc_loose, hgrpc_name, hgrpc_argument and
+ * hgrpc_integer answer. */
 uint64_t second_argument_count(const uint8_t *command, size_t length);
+uint32_t second_loose(const uint8_t *command, size_t length);
 uint32_t second_name(const uint8_t *command, size_t length, size_t *at, size_t *size);
 uint32_t second_argument(const uint8_t *command, size_t length,
                          const uint8_t *key, size_t key_length, size_t *at, size_t *size);

@@ -126,8 +126,11 @@ wrong_receiver() {
 wrong_receivers=()
 wrong_receiver empty_is_last 's/if frame\.flags() == LAST_DATA {/if frame.payload().is_empty() {/'
 wrong_receiver end_ignored 's/is_some_and(|frame| !frame\.ends())/is_some()/'
+wrong_receiver mark_as_1 's/mark << 1 | data/mark | data/'
+wrong_receiver mark_left_out 's/mark << 1 | data/data/'
+wrong_receiver mark_of_the_last_payload 's/command::loose(&command)/command::loose(frame.payload())/'
 
-# Wrong readers of commands, and two that write captures wrongly.
+# Wrong readers of commands, and four that write captures wrongly.
 wrong_reader() {
     wrong_copy "$@"
     wrong_readers+=("$copy")
@@ -157,6 +160,29 @@ wrong_reader negative command.rs 's/-1 - n/-n/'
 wrong_reader refused_is_counted command.rs 's/read(command)\.map_or(0, |command| command\.arguments/read(command).map_or(1, |command| command.arguments/'
 wrong_reader missing_args_count command.rs 's/|command| command\.arguments()\.len() as u64/|command| command.args.map_or(1, |args| args.len() as u64)/'
 wrong_reader range command.rs 's/i64::try_from(n)\.map_err(|_| Refusal::OutOfRange)?/n as i64/'
+# Wrong readers of loose heads. `forgotten` makes one that does not look at heads of the type $2.
+forgotten() { wrong_reader "$1" value.rs "s/self\\.loose |= /&head.major != $2 \\&\\& /"; }
+forgotten unsigned_forgotten 0
+forgotten negative_forgotten 1
+forgotten lengths_forgotten 2
+forgotten array_counts_forgotten 4
+forgotten map_counts_forgotten 5
+forgotten tags_forgotten 6
+wrong_reader 23_in_a_byte_is_shortest value.rs '/^const LEAST/s/24, /23, /'
+wrong_reader 24_in_a_byte_is_loose value.rs '/^const LEAST/s/24, /25, /'
+wrong_reader 255_in_two_is_shortest value.rs '/^const LEAST/s/1 << 8/255/'
+wrong_reader 256_in_two_is_loose value.rs '/^const LEAST/s/1 << 8/257/'
+wrong_reader 65535_in_four_is_shortest value.rs '/^const LEAST/s/1 << 16/65535/'
+wrong_reader 65536_in_four_is_loose value.rs '/^const LEAST/s/1 << 16/65537/'
+wrong_reader 4294967295_in_eight_is_shortest value.rs '/^const LEAST/s/1 << 32/4294967295/'
+wrong_reader 4294967296_in_eight_is_loose value.rs '/^const LEAST/s/1 << 32/4294967297/'
+wrong_reader eight_bytes_are_never_loose value.rs '/^const LEAST/s/1 << 32/0/'
+wrong_reader outermost_alone command.rs 's/ && is_loose(command)/ \&\& command[0] \& 0x1f > 23/'
+wrong_reader last_head_alone value.rs 's/self\.loose |= /self.loose = /'
+wrong_reader keys_and_members_forgotten value.rs 's/^ *self\.value(0)$/let before = self.loose; let plain = self.value(0); self.loose = before; plain/'
+wrong_reader set_array_forgotten value.rs '/fn set(/,/^    }/s/let head = self\.head()?;/let before = self.loose; & self.loose = before;/'
+wrong_reader redirect_forgotten value.rs 's/entries\.push((key, self\.value(levels)?));/let (before, redirect) = (self.loose, key == Value::Bytes(b"redirect")); & if redirect { self.loose = before; }/'
+wrong_reader refused_is_marked command.rs 's/read(command)\.is_ok() && is_loose/is_loose/'
 # Wrong readings of a state's bytes.
 wrong_bytes() {
     wrong_copy "$1" bytes.rs "$2" 1
@@ -174,5 +200,11 @@ wrong_notation=$copy
 wrong_copy quotes capture.rs "s/'\\\\'' | //"
 rust_program tests/programs.rs "$copy/programs" "$copy"
 wrong_quotes=$copy
+wrong_copy loose_not_finished capture.rs 's/self\.bit == 0/self.bit + self.loose == 0/'
+rust_program tests/programs.rs "$copy/programs" "$copy"
+wrong_finish=$copy
+wrong_copy mark_not_shown capture.rs 's/loose: record\[6\] \/ 2/loose: 0/'
+rust_program tests/programs.rs "$copy/programs" "$copy"
+wrong_shown=$copy
 wait "$wrong_copies"
 children=()

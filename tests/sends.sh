@@ -25,6 +25,10 @@ archive_program tests/round_trip.rs "$out/round_trip" "$out"
 "$out/round_trip" run 1 "$sends"
 must_fail '^round trip: seed 1, request [0-9]*: ' "$out/round_trip" damaged 1 20
 must_fail 'too seldom' "$out/round_trip" run 1 100
+copy=$out/wrong/24_in_a_byte_is_loose
+build_lines "$copy"
+archive_program tests/round_trip.rs "$copy/round_trip" "$copy"
+must_fail 'another mark came' "$copy/round_trip" run 1 "$sends"
 
 if [ "$long" -eq 1 ]; then
     answered=0

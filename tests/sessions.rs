@@ -41,7 +41,9 @@ fn commands(seed: u64, count: u64) -> Result<()> {
     for index in 0..count {
         let case = generate::case(seed, index);
         let (command, key) = (to_hex(&case.command), to_hex(&case.key));
-        writeln!(output, "check {command}\nname {command}\ncount {command}")?;
+        for call in ["check", "name", "count", "loose"] {
+            writeln!(output, "{call} {command}")?;
+        }
         writeln!(output, "arg {command} {key}\nint {command} {key}")?;
     }
     output.flush()

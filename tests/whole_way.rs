@@ -14,19 +14,21 @@ mod wish;
 
 use generate::Random;
 use hgrpc::{records, Board, Kind, Record, State, COILS, LABEL_LONGEST, OUTPUT, WORK};
-use laptops::{line, Line};
+use laptops::{line, Due, Line};
 use std::collections::VecDeque;
 use std::process::exit;
 use tally::Tally;
 use wish::Wish;
 
-const MET: [&str; 14] = [
+const MET: [&str; 16] = [
     "four laptops",
     "a command whole while another is under way",
     "frames of one byte",
     "frames of 4,096 bytes",
     "data behind the command",
     "a request id above 255",
+    "a command written loosely",
+    "a command written in the shortest heads",
     "one piece",
     "pieces of one byte",
     "5, and the rest offered again",
@@ -93,17 +95,18 @@ struct Site {
     board: Board,
     model: Model,
     /// What is still to come, in the order in which the commands become whole.
-    due: VecDeque<(u16, Wish)>,
+    due: VecDeque<Due>,
 }
 
 impl Site {
     /// What a board does with a record.
     fn take(&mut self, record: &Record, tally: &mut Tally) -> Result<(), String> {
         if record.kind == Kind::Command {
-            let (id, wish) = self.due.pop_front().ok_or("a command too many came")?;
-            must(record.request == id, "another request came")?;
+            let due = self.due.pop_front().ok_or("a command too many came")?;
+            must(record.request == due.id, "another request came")?;
+            must(record.loose == due.loose, "another mark came")?;
             let number = self.board.apply(record.bytes);
-            let wanted = self.model.grant(&wish, tally);
+            let wanted = self.model.grant(&due.wish, tally);
             must(
                 number == wanted,
                 &format!("the board answers {number}, not {wanted}"),

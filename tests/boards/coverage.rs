@@ -1,7 +1,7 @@
 //! How often the commands meet each thing that is to be met.
 
 use crate::counts::Counts;
-use crate::reasons::{head_width, loose, Loose, Reasons};
+use crate::reasons::{head_width, outline, Outline, Reasons};
 use second::board::Board;
 
 const NUMBERS: [u32; 8] = [0, 24, 25, 26, 40, 41, 42, 43];
@@ -120,18 +120,18 @@ impl Coverage {
     /// A command, what it was answered, and the board before and after it.
     pub fn command(&mut self, command: &[u8], number: u32, before: &Board, after: &Board) {
         self.add_if(true, &number_name(number));
-        let Some(loose) = loose(command) else {
+        let Some(outline) = outline(command) else {
             return;
         };
-        let reasons = loose.reasons();
+        let reasons = outline.reasons();
         self.pairs(number, &reasons);
         match number {
-            0 => self.accepted(command, &loose, before, after),
+            0 => self.accepted(command, &outline, before, after),
             40 => self.unknown(&reasons),
-            41 => self.unfit(&loose, &reasons),
-            42 => self.outside(&loose, &reasons),
+            41 => self.unfit(&outline, &reasons),
+            42 => self.outside(&outline, &reasons),
             43 => {
-                let length = loose.text().map_or(0, <[u8]>::len);
+                let length = outline.text().map_or(0, <[u8]>::len);
                 self.add_if(length == 17, "43: a text of 17 bytes");
                 self.add_if(length >= 256, "43: a text of 256 bytes or more");
             }
@@ -161,7 +161,7 @@ impl Coverage {
         );
     }
 
-    fn unfit(&mut self, loose: &Loose, reasons: &Reasons) {
+    fn unfit(&mut self, outline: &Outline, reasons: &Reasons) {
         for (met, what) in [
             (reasons.missing, "an argument missing"),
             (reasons.extra, "an argument extra"),
@@ -174,10 +174,10 @@ impl Coverage {
                 &format!("41 though the coil is outside: {what}"),
             );
         }
-        self.add_if(loose.name == b"off", "41: `off` with an argument");
-        self.add_if(loose.lacks_args, "41: `args` missing");
+        self.add_if(outline.name == b"off", "41: `off` with an argument");
+        self.add_if(outline.lacks_args, "41: `args` missing");
         if reasons.long {
-            let no_coil = loose.argument(b"coil").is_some() && loose.coil().is_none();
+            let no_coil = outline.argument(b"coil").is_some() && outline.coil().is_none();
             let long = "41 though the text is long:";
             self.add_if(reasons.missing, &format!("{long} an argument missing"));
             self.add_if(reasons.extra, &format!("{long} an argument extra"));
@@ -185,8 +185,8 @@ impl Coverage {
         }
     }
 
-    fn outside(&mut self, loose: &Loose, reasons: &Reasons) {
-        let Some(coil) = loose.coil() else {
+    fn outside(&mut self, outline: &Outline, reasons: &Reasons) {
+        let Some(coil) = outline.coil() else {
             return;
         };
         self.add_if(coil == 16, "42: coil 16");
@@ -196,19 +196,19 @@ impl Coverage {
         self.add_if(coil == 1 << 63, "42: coil 2^63");
         self.add_if(coil < -(1 << 63), "42: a coil below -2^63");
         self.add_if(coil == -(1 << 64), "42: coil -2^64");
-        self.add_if(loose.name == b"set", "42 of a set");
-        self.add_if(loose.name == b"label", "42 of a label");
+        self.add_if(outline.name == b"set", "42 of a set");
+        self.add_if(outline.name == b"label", "42 of a label");
         self.add_if(reasons.long, "42 though the text is long");
     }
 
-    fn accepted(&mut self, command: &[u8], loose: &Loose, before: &Board, after: &Board) {
-        self.add_if(loose.redirected, "accepted with a redirect");
-        if loose.name == b"off" {
+    fn accepted(&mut self, command: &[u8], outline: &Outline, before: &Board, after: &Board) {
+        self.add_if(outline.redirected, "accepted with a redirect");
+        if outline.name == b"off" {
             let on = before.coils.iter().any(|coil| coil.on);
             let labelled = before.coils.iter().any(|coil| !coil.label.is_empty());
             self.add_if(on, "off accepted, and a coil was on");
             self.add_if(labelled, "off accepted, and a coil has a label");
-            self.add_if(loose.lacks_args, "off without args");
+            self.add_if(outline.lacks_args, "off without args");
             return;
         }
         for key in ["coil", "text"] {
@@ -216,13 +216,13 @@ impl Coverage {
                 self.add_if(true, &width_name(key, width));
             }
         }
-        let last = loose.args.last().is_some_and(|(key, _)| *key == b"coil");
+        let last = outline.args.last().is_some_and(|(key, _)| *key == b"coil");
         self.add_if(last, OPPOSITE);
-        let coil = loose.coil().unwrap_or(0) as usize;
+        let coil = outline.coil().unwrap_or(0) as usize;
         self.add_if(coil == 0, "coil 0 accepted");
         self.add_if(coil == 15, "coil 15 accepted");
         let (old, new) = (&before.coils[coil], &after.coils[coil]);
-        if loose.name == b"set" {
+        if outline.name == b"set" {
             self.add_if(true, "set accepted");
             self.add_if(!old.on && new.on, "set that switches on");
             self.add_if(old.on && !new.on, "set that switches off");

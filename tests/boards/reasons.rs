@@ -23,7 +23,7 @@ impl Reasons {
 }
 
 /// A command as far as it can be read.
-pub struct Loose<'a> {
+pub struct Outline<'a> {
     pub name: &'a [u8],
     pub args: Vec<(&'a [u8], Value<'a>)>,
     pub redirected: bool,
@@ -37,7 +37,7 @@ fn tree(bytes: &[u8]) -> Option<Value<'_>> {
         .find_map(|end| read_whole(&bytes[..end]))
 }
 
-pub fn loose(bytes: &[u8]) -> Option<Loose<'_>> {
+pub fn outline(bytes: &[u8]) -> Option<Outline<'_>> {
     let Some(Value::Map(entries)) = tree(bytes) else {
         return None;
     };
@@ -53,7 +53,7 @@ pub fn loose(bytes: &[u8]) -> Option<Loose<'_>> {
         Value::Bytes(key) => Some((key, value)),
         _ => None,
     };
-    Some(Loose {
+    Some(Outline {
         name: match under(b"name") {
             Some(Value::Bytes(name)) => name,
             _ => b"",
@@ -64,7 +64,7 @@ pub fn loose(bytes: &[u8]) -> Option<Loose<'_>> {
     })
 }
 
-impl<'a> Loose<'a> {
+impl<'a> Outline<'a> {
     pub fn argument(&self, key: &[u8]) -> Option<&Value<'a>> {
         let found = self.args.iter().find(|(held, _)| *held == key);
         found.map(|(_, value)| value)

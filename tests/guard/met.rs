@@ -4,8 +4,8 @@
 use std::collections::BTreeSet;
 
 /// The answers that begin with a number.
-const NUMBERED: [&str; 8] = [
-    "fed", "finished", "checked", "named", "argument", "integer", "sent", "counted",
+const NUMBERED: [&str; 9] = [
+    "fed", "finished", "checked", "named", "argument", "integer", "sent", "counted", "loose",
 ];
 
 #[derive(Default)]
@@ -65,7 +65,7 @@ impl Met {
     pub fn missing(&self) -> Option<String> {
         let fed = [0, 1, 2, 3, 5].into_iter().chain(11..=29).collect();
         let finished = [0, 3, 4].into_iter().chain(11..=29).collect();
-        let wanted: [(&str, Vec<usize>); 20] = [
+        let wanted: [(&str, Vec<usize>); 21] = [
             ("fed", fed),
             ("finished", finished),
             ("checked", vec![0, 24, 25, 26]),
@@ -84,6 +84,7 @@ impl Met {
             ("frames", vec![0, 1, 7, 8]),
             ("filled", vec![1]),
             ("counted", vec![0, 1, 2]),
+            ("loose", vec![0, 1]),
             ("board", vec![0, 24, 25, 26, 40, 41, 42, 43]),
             ("applied", vec![10, 26]),
         ];

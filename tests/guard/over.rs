@@ -148,6 +148,15 @@ fn lookups(over: &str) {
     assert_eq!((number, at, size), (0, bytes.len() - 1, 1));
 }
 
+/// The command's last byte is the last of its one loose head.
+fn marks(over: &str) {
+    let bytes = b"\xa2\x44name\x43set\x44args\xa1\x41k\x19\0\xff";
+    let mut marked = Lent::new("marked", bytes, over);
+    // As above.
+    let mark = unsafe { raw::hgrpc_loose(marked.pointer(), marked.length) };
+    assert_eq!(mark, 1);
+}
+
 /// A request whose frames take as much output as there is: the command's, and
 /// a longest data frame.
 const NAME: &[u8] = b"set";
@@ -216,6 +225,7 @@ fn boards(over: &str) {
 pub fn lend(over: &str) {
     feeds(over);
     lookups(over);
+    marks(over);
     boards(over);
     sends(over);
 }
@@ -223,9 +233,9 @@ pub fn lend(over: &str) {
 /// Makes them with each buffer in turn, in a program of its own, which a touched
 /// page must end; and with none, which must come to its end.
 pub fn each() {
-    const BUFFERS: [&str; 14] = [
-        "none", "state", "work", "input", "output", "command", "key", "name", "pairs", "data",
-        "frames", "board", "applied", "first",
+    const BUFFERS: [&str; 15] = [
+        "none", "state", "work", "input", "output", "command", "key", "marked", "name", "pairs",
+        "data", "frames", "board", "applied", "first",
     ];
     for buffer in BUFFERS {
         let program = std::env::current_exe().expect("a program knows its place");

@@ -6,7 +6,7 @@ use crate::names::{DISTANCES, FEW, FEW_DISTANCES, FEW_SIZES, MET, SIZES};
 use crate::near;
 use crate::view::{doubles, in_order, span, view, Key, View};
 use second::command::check;
-use second::value::{read_whole, Value};
+use second::value::{is_loose, read_whole, Value};
 use std::cmp::Ordering;
 use std::collections::BTreeSet;
 
@@ -84,6 +84,9 @@ impl Coverage {
     }
 
     fn accepted(&mut self, command: &[u8], view: &View) {
+        let loose = is_loose(command);
+        self.add_if(loose, "0: a loose head");
+        self.add_if(!loose, "0: no loose head");
         let Some(keys) = view.args.first() else {
             return;
         };

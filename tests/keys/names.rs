@@ -39,7 +39,7 @@ pub const DISTANCES: [(&str, usize, usize); 13] = [
 const WIDTHS: [usize; 5] = [1, 2, 3, 5, 9];
 
 /// What must come up in one of 1,000 commands, beside the tables.
-pub const MET: [&str; 42] = [
+pub const MET: [&str; 44] = [
     "1 key, 0",
     "more than 500 keys in 2,000 to 2,048 bytes, 0",
     "more than 500 keys in 2,000 to 2,048 bytes, 26",
@@ -70,6 +70,8 @@ pub const MET: [&str; 42] = [
     "26: another key has the double's number",
     "0: a double inside a value",
     "0: a key of args inside a value",
+    "0: a loose head",
+    "0: no loose head",
     "26: name twice",
     "26: redirect twice",
     "26: args twice",

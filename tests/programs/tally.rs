@@ -10,13 +10,15 @@ pub struct Tally {
     counts: BTreeMap<String, u64>,
 }
 
-/// The kinds of lines: records by their bit, those with a redirect, a set, a
-/// byte string as text or in hex, the end inside a frame, and each refusal by
-/// its number.
+/// The kinds of lines: records by their bit, commands by their mark too, those with
+/// a redirect, a set, a byte string as text or in hex, the end inside a frame, and
+/// each refusal by its number.
 fn kinds() -> impl Iterator<Item = String> {
     let records = [
-        "command data 0",
-        "command data 1",
+        "command data 0 loose 0",
+        "command data 1 loose 0",
+        "command data 0 loose 1",
+        "command data 1 loose 1",
         "data last 0",
         "data last 1",
     ];
@@ -33,12 +35,13 @@ impl Tally {
     pub fn add(&mut self, text: &str) {
         for line in text.lines() {
             self.count("lines");
-            let words: Vec<&str> = line.split(' ').take(4).collect();
+            let words: Vec<&str> = line.split(' ').take(6).collect();
             match words[..] {
                 ["refused", number, ..] => self.count(&format!("refused {number}")),
-                [kind @ ("command" | "data"), _, bit, value] => {
-                    self.count(&format!("{kind} {bit} {value}"))
+                ["command", _, "data", bit, "loose", mark] => {
+                    self.count(&format!("command data {bit} loose {mark}"))
                 }
+                ["data", _, "last", bit, ..] => self.count(&format!("data last {bit}")),
                 _ => self.count("the input"),
             }
             for part in [" redirect {", "258([", " '", " h'"] {

@@ -10,7 +10,7 @@ use second::value::{read_whole, Value};
 const NUMBERS: [u8; 6] = [0, 50, 51, 52, 53, 54];
 
 /// All but the numbers and the reasons for 52.
-const MET: [&str; 57] = [
+const MET: [&str; 60] = [
     "50 for the request id alone",
     "50 for the stream id alone",
     "50 for both ids",
@@ -65,7 +65,10 @@ const MET: [&str; 57] = [
     "24 to 255 pairs",
     "256 pairs or more",
     "value of six levels",
-    "heads in the pairs that are wider than need be",
+    "loose pairs without data",
+    "loose pairs with data",
+    "shortest pairs without data",
+    "shortest pairs with data",
     "command of 2,048 bytes",
     "request id above 255",
 ];
@@ -201,11 +204,12 @@ impl Coverage {
         let many = (24..256).contains(&request.count);
         self.add_if(many, "24 to 255 pairs");
         self.add_if(request.count >= 256, "256 pairs or more");
-        self.add_if(
-            sending.wide,
-            "heads in the pairs that are wider than need be",
-        );
         let command = request.command();
+        let loose = command::loose(&command);
+        assert!(loose || !sending.wide, "pairs with wide heads are loose");
+        let how = if loose { "loose" } else { "shortest" };
+        let with = if data { "with" } else { "without" };
+        self.add_if(true, &format!("{how} pairs {with} data"));
         let tree = read_whole(&command).expect("it passes the check");
         self.add_if(levels(&tree) == 8, "value of six levels");
         self.add_if(command.len() == 2048, "command of 2,048 bytes");

@@ -1,6 +1,7 @@
 //! What was sent, read by the second implementation's plain receiver, which is
 //! ready for it.
 
+use second::command;
 use second::receiver::Uncut;
 use second::sender::Request;
 use second::state::{State, WORK};
@@ -8,21 +9,23 @@ use second::state::{State, WORK};
 /// The records that the request comes to.
 fn records(request: &Request) -> Vec<u8> {
     let mut records = Vec::new();
-    let mut add = |kind: u16, bit: bool, content: &[u8]| {
+    let mut add = |kind: u16, third: u8, content: &[u8]| {
         for number in [3 + content.len() as u16, kind, request.id] {
             records.extend(number.to_le_bytes());
         }
-        records.push(bit.into());
+        records.push(third);
         records.extend(content);
     };
-    add(1, request.data.is_some(), &request.command());
+    let command = request.command();
+    let mark = if command::loose(&command) { 2 } else { 0 };
+    add(1, u8::from(request.data.is_some()) + mark, &command);
     if let Some(data) = request.data {
         let size = request.size as usize;
         let more = data.len().saturating_sub(1) / size * size;
         for payload in data[..more].chunks(size) {
-            add(2, false, payload);
+            add(2, 0, payload);
         }
-        add(2, true, &data[more..]);
+        add(2, 1, &data[more..]);
     }
     records
 }

@@ -1,6 +1,7 @@
 //! How often the sessions meet each thing that is to be met.
 
 use crate::counts::Memory;
+use generate::{heads, Head};
 use second::command::lacks_args;
 use second::frame::{
     Frame, BEGINS, COMMAND, CONTINUATION, DATA, ENDS, LAST_DATA, MORE, NEW, WITH_DATA,
@@ -10,7 +11,7 @@ use second::state::Way;
 use std::collections::BTreeMap;
 
 /// All but the refusal numbers and the ways to be out of shape.
-const MET: [&str; 64] = [
+const MET: [&str; 70] = [
     "2 though 3 applies too",
     "3 though dead",
     "dead answered to a feed",
@@ -58,6 +59,12 @@ const MET: [&str; 64] = [
     "command of 2,047 bytes",
     "command of 2,048 bytes",
     "command without args",
+    "shortest command, to waiting",
+    "shortest command, to running",
+    "loose command, to waiting",
+    "loose command, to running",
+    "loose command over several frames",
+    "a command's one loose head cut by frames",
     "request over several streams",
     "id used again",
     "eighth request",
@@ -159,7 +166,9 @@ impl Coverage {
             let data = frame.is_command(WITH_DATA);
             self.add_if(data, "whole, to waiting");
             self.add_if(!data, "whole, to running");
-            let command = whole_command(frame, past);
+            let payloads = payloads(frame, past);
+            let command = payloads.concat();
+            self.written(&payloads, data);
             self.add_if(command.len() == 2047, "command of 2,047 bytes");
             self.add_if(command.len() == 2048, "command of 2,048 bytes");
             self.add_if(lacks_args(&command), "command without args");
@@ -170,6 +179,30 @@ impl Coverage {
             self.add_if(moved, "request over several streams");
         } else {
             self.add_if(before.is_some(), "id used again");
+        }
+    }
+
+    /// How a command is written that came in these payloads.
+    fn written(&mut self, payloads: &[&[u8]], data: bool) {
+        let mut loose = heads(&payloads.concat());
+        loose.retain(Head::is_loose);
+        let how = if loose.is_empty() {
+            "shortest"
+        } else {
+            "loose"
+        };
+        let next = if data { "waiting" } else { "running" };
+        self.add(&format!("{how} command, to {next}"));
+        let several = !loose.is_empty() && payloads.len() > 1;
+        self.add_if(several, "loose command over several frames");
+        if let [head] = loose[..] {
+            let inside = head.at + 1..head.at + head.length;
+            let mut ends = payloads.iter().scan(0, |end, payload| {
+                *end += payload.len();
+                Some(*end)
+            });
+            let cut = ends.any(|end| inside.contains(&end));
+            self.add_if(cut, "a command's one loose head cut by frames");
         }
     }
 
@@ -200,8 +233,8 @@ fn command_frames<'p>(frame: &Frame, past: &'p [Event]) -> impl Iterator<Item = 
     })
 }
 
-/// The command that this frame makes whole.
-fn whole_command(frame: &Frame, past: &[Event]) -> Vec<u8> {
+/// The payloads of the command that this frame makes whole.
+fn payloads<'p>(frame: &'p Frame, past: &'p [Event]) -> Vec<&'p [u8]> {
     let mut payloads = vec![frame.payload()];
     if frame.is_command(CONTINUATION) {
         for before in command_frames(frame, past) {
@@ -212,7 +245,7 @@ fn whole_command(frame: &Frame, past: &[Event]) -> Vec<u8> {
         }
     }
     payloads.reverse();
-    payloads.concat()
+    payloads
 }
 
 fn number_name(number: u8) -> String {

@@ -60,6 +60,7 @@ pub fn run(program: Option<&str>) -> Result<()> {
     finish_of_collecting(table);
     command_bytes(table);
     without_args(table);
+    loosely_written(table);
     let answers = match program {
         Some(program) => program_answers(program, table)?,
         None => second_answers(table),
@@ -69,7 +70,7 @@ pub fn run(program: Option<&str>) -> Result<()> {
         assert_eq!(*answer, asked.answer, "{}: {}", asked.trace, asked.line);
     }
     let who = program.unwrap_or("the second implementation");
-    println!("sessions: T1 to T12 and E1 as in the papers, by {who}");
+    println!("sessions: T1 to T12, E1 and E5 as in the papers, by {who}");
     Ok(())
 }
 
@@ -224,4 +225,28 @@ fn without_args(table: &mut Table) {
     }
     e1.ask("check a14461726773a0", "checked 25");
     e1.ask(&format!("check a2{name}446172677380"), "checked 25");
+}
+
+/// E5: T1 with a loose head, without data and with data, which makes the record's
+/// third body byte 2 and 3; then the marks of a few heads, as the argument `k`.
+fn loosely_written(table: &mut Table) {
+    let loose = format!("b802{}", &COMMAND[2..]);
+    let mut e5 = Trace::new(table, "E5");
+    for (kind, bit) in [("11", "02"), ("19", "03")] {
+        let frame = format!("11000001000103{kind}{loose}");
+        e5.feed(&frame, 0, &format!("140001000100{bit}{loose}"));
+        if kind == "11" {
+            e5.ask("finish 1", "finished 0");
+        }
+    }
+    e5.feed("02000001000103226869", 0, "050002000100016869");
+    let with = |item: &str| format!("a2446e616d65437365744461726773a1416b{item}");
+    for (item, mark) in [
+        ("1817", 1),
+        ("1818", 0),
+        ("d9010280", 0),
+        ("da0000010280", 1),
+    ] {
+        e5.ask(&format!("loose {}", with(item)), &format!("loose {mark}"));
+    }
 }

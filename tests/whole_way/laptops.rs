@@ -2,7 +2,7 @@
 //! archive writes them, and their frames in turn.
 
 use crate::tally::Tally;
-use crate::wish::Wish;
+use crate::wish::{Wish, Written};
 use generate::Random;
 use hgrpc::{send, Request, FRAME_HEAD, PAYLOAD_LONGEST};
 use std::collections::{BTreeSet, VecDeque};
@@ -10,17 +10,23 @@ use std::collections::{BTreeSet, VecDeque};
 /// What the laptops put on the line.
 pub struct Line {
     pub bytes: Vec<u8>,
-    /// The wishes, with their requests' ids, in the order in which the commands
-    /// become whole.
-    pub due: VecDeque<(u16, Wish)>,
+    /// The messages in the order in which their commands become whole.
+    pub due: VecDeque<Due>,
     /// The place of the last byte of each `set`: its coil, or true or false.
     pub set_ends: Vec<usize>,
 }
 
+/// What is to come of a message: its request's id, what is asked for, and
+/// whether that is written loosely.
+pub struct Due {
+    pub id: u16,
+    pub wish: Wish,
+    pub loose: bool,
+}
+
 /// A message under way: the frames that are still to come.
 struct Message {
-    id: u16,
-    wish: Option<Wish>,
+    due: Option<Due>,
     frames: VecDeque<Vec<u8>>,
 }
 
@@ -63,7 +69,7 @@ impl Laptop {
     /// Sends a message. Its frames are there, and none of them is on the line yet.
     fn send(&mut self, id: u16, random: &mut Random, tally: &mut Tally) -> Result<(), String> {
         let wish = Wish::any(random);
-        let pairs = wish.pairs(random);
+        let Written { pairs, loose } = wish.written(random);
         let any = random.between(1, PAYLOAD_LONGEST);
         let length = random.below(60);
         let data = random.percent(25).then(|| random.bytes(length));
@@ -88,10 +94,11 @@ impl Laptop {
         tally.add_if(request.size == PAYLOAD_LONGEST, "frames of 4,096 bytes");
         tally.add_if(data.is_some(), "data behind the command");
         tally.add_if(id > 255, "a request id above 255");
+        tally.add_if(loose, "a command written loosely");
+        tally.add_if(!loose, "a command written in the shortest heads");
         self.left -= 1;
         self.message = Some(Message {
-            id,
-            wish: Some(wish),
+            due: Some(Due { id, wish, loose }),
             frames: frames(&output[..sent.written]),
         });
         Ok(())
@@ -136,11 +143,11 @@ pub fn line(random: &mut Random, tally: &mut Tally) -> Result<Line, String> {
         line.bytes.extend(&frame);
         if completes(&frame) {
             tally.add_if(others > 0, "a command whole while another is under way");
-            let wish = message.wish.take().ok_or("a command whole twice")?;
-            if matches!(wish, Wish::Set(..)) {
+            let due = message.due.take().ok_or("a command whole twice")?;
+            if matches!(due.wish, Wish::Set(..)) {
                 line.set_ends.push(line.bytes.len() - 1);
             }
-            line.due.push_back((message.id, wish));
+            line.due.push_back(due);
         }
         if message.frames.is_empty() {
             laptop.message = None;

@@ -8,44 +8,65 @@ pub enum Wish {
     Label(usize, Vec<u8>),
     Off,
     /// What the board refuses with this number: a name, and arguments.
-    Refused(u32, &'static [u8], Vec<Vec<u8>>),
+    Refused(u32, &'static [u8], Vec<Argument>),
 }
 
-/// A CBOR head, in any width that holds the number.
-fn head(major: u8, number: u64, random: &mut Random) -> Vec<u8> {
-    let bytes = number.to_be_bytes();
-    let widths: Vec<usize> = [0, 1, 2, 4, 8]
-        .into_iter()
-        .filter(|width| match width {
-            0 => number < 24,
-            8 => true,
-            _ => number >> (8 * width) == 0,
-        })
-        .collect();
-    let width = random.pick(&widths);
-    let info = match width {
-        0 => number as u8,
-        _ => 24 + width.trailing_zeros() as u8,
-    };
-    [&[major << 5 | info], &bytes[8 - width..]].concat()
+#[derive(Clone)]
+pub enum Argument {
+    Coil(u64),
+    On(bool),
+    Text(Vec<u8>),
 }
 
-fn string(content: &[u8], random: &mut Random) -> Vec<u8> {
-    [head(2, content.len() as u64, random), content.to_vec()].concat()
+/// The arguments of a wish as they are sent.
+pub struct Written {
+    pub pairs: Vec<Vec<u8>>,
+    /// Whether a head in them is not the shortest for its number.
+    pub loose: bool,
 }
 
-fn coil(number: u64, random: &mut Random) -> Vec<u8> {
-    [string(b"coil", random), head(0, number, random)].concat()
+/// Writes in the shortest heads, or, if it is asked to, in heads of any width.
+struct Writer<'r> {
+    random: &'r mut Random,
+    any_width: bool,
+    loose: bool,
 }
 
-fn on(on: bool, random: &mut Random) -> Vec<u8> {
-    let mut pair = string(b"on", random);
-    pair.push(if on { 0xf5 } else { 0xf4 });
-    pair
-}
+impl Writer<'_> {
+    fn head(&mut self, major: u8, number: u64) -> Vec<u8> {
+        let bytes = number.to_be_bytes();
+        let mut widths: Vec<usize> = [0, 1, 2, 4, 8]
+            .into_iter()
+            .filter(|width| match width {
+                0 => number < 24,
+                8 => true,
+                _ => number >> (8 * width) == 0,
+            })
+            .collect();
+        if !self.any_width {
+            widths.truncate(1);
+        }
+        let width = self.random.pick(&widths);
+        self.loose |= width != widths[0];
+        let info = match width {
+            0 => number as u8,
+            _ => 24 + width.trailing_zeros() as u8,
+        };
+        [&[major << 5 | info], &bytes[8 - width..]].concat()
+    }
 
-fn text(content: &[u8], random: &mut Random) -> Vec<u8> {
-    [string(b"text", random), string(content, random)].concat()
+    fn string(&mut self, content: &[u8]) -> Vec<u8> {
+        [&self.head(2, content.len() as u64), content].concat()
+    }
+
+    fn pair(&mut self, argument: &Argument) -> Vec<u8> {
+        let (key, value) = match argument {
+            Argument::Coil(number) => (&b"coil"[..], self.head(0, *number)),
+            Argument::On(on) => (&b"on"[..], vec![if *on { 0xf5 } else { 0xf4 }]),
+            Argument::Text(text) => (&b"text"[..], self.string(text)),
+        };
+        [self.string(key), value].concat()
+    }
 }
 
 impl Wish {
@@ -67,18 +88,13 @@ impl Wish {
         let number = random.below(COILS) as u64;
         let outside = random.pick(&[16, 99, 256 + number, u64::MAX]);
         let long = random.bytes(LABEL_LONGEST + 1);
+        let (coil, other) = (Argument::Coil(number), Argument::Coil(outside));
         match random.below(5) {
-            0 => Wish::Refused(40, b"toggle", vec![coil(number, random)]),
-            1 => Wish::Refused(41, b"set", vec![coil(outside, random)]),
-            2 => Wish::Refused(41, b"off", vec![coil(number, random)]),
-            3 => {
-                let pairs = vec![coil(outside, random), on(true, random)];
-                Wish::Refused(42, b"set", pairs)
-            }
-            _ => {
-                let pairs = vec![coil(number, random), text(&long, random)];
-                Wish::Refused(43, b"label", pairs)
-            }
+            0 => Wish::Refused(40, b"toggle", vec![coil]),
+            1 => Wish::Refused(41, b"set", vec![other]),
+            2 => Wish::Refused(41, b"off", vec![coil]),
+            3 => Wish::Refused(42, b"set", vec![other, Argument::On(true)]),
+            _ => Wish::Refused(43, b"label", vec![coil, Argument::Text(long)]),
         }
     }
 
@@ -92,14 +108,24 @@ impl Wish {
     }
 
     /// The arguments in any order.
-    pub fn pairs(&self, random: &mut Random) -> Vec<Vec<u8>> {
-        let mut pairs = match self {
-            Wish::Set(number, switch) => vec![coil(*number as u64, random), on(*switch, random)],
-            Wish::Label(number, label) => vec![coil(*number as u64, random), text(label, random)],
+    pub fn written(&self, random: &mut Random) -> Written {
+        let coil = |number: &usize| Argument::Coil(*number as u64);
+        let mut arguments = match self {
+            Wish::Set(number, switch) => vec![coil(number), Argument::On(*switch)],
+            Wish::Label(number, label) => vec![coil(number), Argument::Text(label.clone())],
             Wish::Off => vec![],
-            Wish::Refused(_, _, pairs) => pairs.clone(),
+            Wish::Refused(_, _, arguments) => arguments.clone(),
         };
-        random.shuffle(&mut pairs);
-        pairs
+        random.shuffle(&mut arguments);
+        let mut writer = Writer {
+            any_width: random.percent(60),
+            random,
+            loose: false,
+        };
+        let pairs = arguments.iter().map(|argument| writer.pair(argument));
+        Written {
+            pairs: pairs.collect(),
+            loose: writer.loose,
+        }
     }
 }

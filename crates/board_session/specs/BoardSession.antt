@@ -33,7 +33,7 @@ abbrev pub withCommand : ℕ → List ℕ → List (List ℕ) → List (List ℕ
 withCommand kind command rest = cond (eqb kind 1) (command ∷ rest) rest
 
 -- The commands of at most n joined records, in order. A record is its body's length (2), its kind (2) and its body, which is the request (2), a
--- bit (1) and the command or data. A record that is not whole ends them.
+-- byte (1) and the command or data. A record that is not whole ends them.
 unfoldable pub firstCommands : ℕ → List ℕ → List (List ℕ)
 firstCommands zero records = []
 firstCommands (suc n) records =

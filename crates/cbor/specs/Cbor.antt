@@ -81,6 +81,10 @@ module _ (s : List ℕ) where
   unfoldable pub headAt : ℕ → Head
   headAt at = headOf at (getD s at 0 / 32) (getD s at 0 % 32)
 
+  -- the position behind n bytes from a position on; one past the end where there are fewer
+  unfoldable pub endOf : ℕ → ℕ → ℕ
+  endOf from n = cond (ltb (length s) (from + n)) (suc (length s)) (from + n)
+
   -- a byte string of n bytes
   unfoldable pub bytesAt : ℕ → ℕ → Item
   bytesAt n at = cond (ltb (length s) (at + n)) Refused (Bytes at (at + n))

@@ -1,6 +1,6 @@
 -- Writing a head: the shortest for its number, by RFC 7049. What it reads as is in proofs/HeadLaws.antt.
 -- These are definitions: they assume nothing.
-use Prim.Native.Nat.{ℕ, zero, suc, _+_, _*_, _/_, _%_, _^_}
+use Prim.Native.Nat.{ℕ, zero, suc, _+_, _*_, _/_, _%_}
 use mathlib.Core.List.{List, [], _∷_, _++_}
 use lib.ListN.{length}
 use Rattle.cbor.specs.Cbor.{width, shortest}

@@ -4,8 +4,7 @@
 ghost use mathlib.Core.Path.{_≡_};
 ghost use Prim.Native.Nat.{_+_, _%_, _≤_, _<_};
 ghost use lib.ListN.{length};
-ghost use Rattle.cbor.specs.Cbor.{width, shortest, isShortest, bigEndian, headAt, bytesAt, tagged, itemAt, scalarOf, key, value, repeat, pair, isItem};
-ghost use Rattle.cbor.specs.End.{EndOf};
+ghost use Rattle.cbor.specs.Cbor.{width, shortest, isShortest, bigEndian, headAt, endOf, bytesAt, tagged, itemAt, scalarOf, key, value, repeat, pair, isItem};
 ghost use Rattle.cbor.specs.Heads.{bigBytes, headBytes};
 ghost use Rattle.buffer.specs.Bytes.{write};
 
@@ -140,10 +139,10 @@ pub fn is_shortest(h: Head) -> bool
     info == shortest(value)
 }
 
-// The position after n bytes from `from` on, or one past the slice's end where it has fewer. The length is never added before it is
+// The position behind n bytes from `from` on, or one past the slice's end where it has fewer. The length is never added before it is
 // compared with what is there.
-fn end_of(s: &[u8], from: usize, n: u64) -> usize
-    ensures { λ r. ⌜ EndOf (length (now (s .entry))) from n r ⌝ }
+pub fn end_of(s: &[u8], from: usize, n: u64) -> usize
+    ensures { λ r. ⌜ r ≡ endOf (now (s .entry)) from n ⌝ }
 {
     let past = s.len() + 1;
     if s.len() < from {

@@ -2,7 +2,7 @@
 -- head there exactly if the definition does. One law for each reader, as in `Ahead` and `Shift` of cbor.
 -- Assumes nothing.
 use mathlib.Core.Path.{_≡_, refl, sym, ap, _∙_, subst}
-use mathlib.Core.Bool.{Bool, true, false, cond, _&&_, _||_, not, false≢true}
+use mathlib.Core.Bool.{Bool, true, false, cond, _||_, not, false≢true}
 use mathlib.Core.List.{List}
 use Prim.Native.Nat.{ℕ, zero, suc, _+_, _-_, _/_, _%_, _≤_, _<_}
 use native.Mathlib.Omega.{arith}
@@ -15,10 +15,10 @@ use Rattle.cbor.specs.declared.Item.{Item}
 use Rattle.cbor.specs.declared.Item.the-variants.{Unsigned, Negative, Bytes, Simple, Array, Map, Set, Refused}
 use Rattle.cbor.specs.declared.Next.{Next}
 use Rattle.cbor.specs.declared.Next.the-variants.{At, Bad}
-use Rattle.cbor.specs.Cbor.{Reader, width, shortest, isShortest, headValue, headOf, headAt, bytesAt, simple, setOf, tagged, itemOf, itemAt, andThen, repeat, scalarOf, key, pair, valueOf, value, whole, isItem}
+use Rattle.cbor.specs.Cbor.{Reader, width, shortest, isShortest, headValue, headOf, headAt, endOf, bytesAt, setOf, tagged, itemOf, itemAt, andThen, repeat, scalarOf, key, pair, valueOf, value, whole, isItem}
 use Rattle.cbor.proofs.Ahead.{by-test, Head-ahead, head-ahead}
 use Rattle.loose.specs.Loose.{Question, onward, anyOf, looseHeads, looseItem, loosePair, looseElements, loose}
-use Rattle.loose.specs.Scan.{contentEnd, behind, scan, scanned, ScanHolds}
+use Rattle.loose.specs.Scan.{behind, scan, scanned, ScanHolds}
 
 or-assoc : (a b c : Bool) → ((a || b) || c) ≡ (a || (b || c))
 or-assoc true b c = refl
@@ -32,10 +32,10 @@ module _ (s : List ℕ) where
   -- ---- the scan goes ahead, so that as many heads as there are bytes are all of them
 
   pub behind-ahead : (p : ℕ) (h : Head) → Head-ahead s p h → p < length s → p < behind s h
-  unfolding contentEnd
+  unfolding endOf
   behind-ahead p Broken a l = l
   behind-ahead p (Of major info n next) a l =
-      by-test (λ (q : ℕ). p < q) (eqb major 2) (λ e. by-test (λ (q : ℕ). p < q) (ltb (length s) (next + n)) (λ f. l) (λ f. omega arith)) (λ e. a .0)
+      by-test (λ (q : ℕ). p < q) (eqb major 2) (λ e. by-test (λ (q : ℕ). p < q) (ltb (length s) (next + n)) (λ f. omega arith) (λ f. omega arith)) (λ e. a .0)
 
   pub enough : (k j p : ℕ) → length s ≤ k + p → length s ≤ j + p → scan s k p ≡ scan s j p
   unfolding scan
@@ -143,7 +143,7 @@ module _ (s : List ℕ) where
         passed p major info n next read ∙ rw (no-bytes, no-tag, at-inj h, or-false (not (isShortest (Of major info n next))))
 
     string : major ≡ 2 → Scans (bytesAt s n next)
-    unfolding bytesAt contentEnd
+    unfolding bytesAt endOf
     string e = by (ltb (length s) (next + n)) refl
       where
         by : (t : Bool) → ltb (length s) (next + n) ≡ t → Scans (cond t Refused (Bytes next (next + n)))

@@ -1,21 +1,20 @@
 -- The scan behind a prefix goes as it does alone, and heads that are written are shortest: the scan finds nothing in them.
 -- Assumes nothing.
-use mathlib.Core.Path.{_≡_, refl, sym, ap, _∙_}
-use mathlib.Core.Bool.{Bool, true, false, cond, _||_, not}
+use mathlib.Core.Path.{_≡_, refl, sym, _∙_}
 use mathlib.Core.List.{List, _++_, append-assoc}
 use Prim.Native.Nat.{ℕ, zero, suc, _+_, _^_, _≤_, _<_}
-use native.Mathlib.Nat.{add-assoc}
+use native.Mathlib.Nat.{add-assoc, add-suc}
 use native.Mathlib.Omega.{arith}
 use lib.ListN.{length, length-append}
 use lib.Dec.{ltb, eqb}
 use borrow.Author.Tests.{le-ltb, ne-eqb, eq-eqb}
 use Rattle.cbor.specs.declared.Head.{Head}
 use Rattle.cbor.specs.declared.Head.the-variants.{Of, Broken}
-use Rattle.cbor.specs.Cbor.{shortest, isShortest, headAt}
+use Rattle.cbor.specs.Cbor.{shortest, isShortest, headAt, endOf}
 use Rattle.cbor.specs.Heads.{headBytes, stringBytes}
 use Rattle.cbor.proofs.Shift.{shiftedHead, of-both, ltb-shift, head-shift}
 use Rattle.cbor.proofs.HeadLaws.{length-head, head-back}
-use Rattle.loose.specs.Scan.{contentEnd, behind, scan, scanned}
+use Rattle.loose.specs.Scan.{behind, scan, scanned}
 use Rattle.loose.proofs.ScanLaws.{from, enough, goes}
 
 -- ---- behind a prefix
@@ -24,14 +23,14 @@ module _ (p s : List ℕ) where
   abbrev past : ℕ
   past = length p
 
-  content-shift : (at n : ℕ) → contentEnd (p ++ s) (past + at) n ≡ past + contentEnd s at n
-  unfolding contentEnd
-  content-shift at n =
-      rw (length-append, add-assoc past at n, ltb-shift past (length s) (at + n)) (of-both (λ (q : ℕ). past + q) (ltb (length s) (at + n)) refl refl)
+  end-shift : (at n : ℕ) → endOf (p ++ s) (past + at) n ≡ past + endOf s at n
+  unfolding endOf
+  end-shift at n =
+      rw (length-append, add-assoc past at n, ltb-shift past (length s) (at + n)) (of-both (λ (q : ℕ). past + q) (ltb (length s) (at + n)) (sym (add-suc past (length s))) refl)
 
   behind-shift : (h : Head) → behind (p ++ s) (shiftedHead past h) ≡ past + behind s h
   behind-shift Broken = length-append p s
-  behind-shift (Of major info n next) = of-both (λ (q : ℕ). past + q) (eqb major 2) (content-shift next n) refl
+  behind-shift (Of major info n next) = of-both (λ (q : ℕ). past + q) (eqb major 2) (end-shift next n) refl
 
   shortest-shift : (h : Head) → isShortest (shiftedHead past h) ≡ isShortest h
   shortest-shift Broken = refl
@@ -64,7 +63,7 @@ head-passed major n rest h o =
     passed (headBytes major n) rest major n h (head-back major n rest h) (rw (ne-eqb major 2 o)) (omega (arith, length-head major n))
 
 pub string-passed : (k rest : List ℕ) → length k < 2 ^ 64 → scanned (stringBytes k ++ rest) ≡ scanned rest
-unfolding stringBytes contentEnd
+unfolding stringBytes endOf
 string-passed k rest h =
     let head : List ℕ = headBytes 2 (length k) in
     let long : length head + length k ≤ length ((head ++ k) ++ rest) = omega (arith, length-append (head ++ k) rest, length-append head k) in

@@ -1,7 +1,7 @@
 -- The same without recursion over containers: the heads one behind the other up to the end of the bytes, a byte string's content skipped.
 -- Bytes that are one item have no other heads, so both come to the same (`ScanHolds`, in proofs/ScanLaws.antt).
 -- These are definitions: they assume nothing.
-use Prim.Native.Nat.{ℕ, zero, suc, _+_}
+use Prim.Native.Nat.{ℕ, zero, suc}
 use mathlib.Core.Path.{_≡_}
 use mathlib.Core.List.{List}
 use mathlib.Core.Bool.{Bool, true, false, cond, _||_, not}
@@ -9,18 +9,14 @@ use lib.ListN.{length}
 use lib.Dec.{ltb, eqb}
 use Rattle.cbor.specs.declared.Head.{Head}
 use Rattle.cbor.specs.declared.Head.the-variants.{Of, Broken}
-use Rattle.cbor.specs.Cbor.{isShortest, headAt, isItem}
+use Rattle.cbor.specs.Cbor.{isShortest, headAt, endOf, isItem}
 use Rattle.loose.specs.Loose.{loose}
 
 module _ (s : List ℕ) where
-  -- the position behind n bytes from a position on, the end where there are fewer
-  unfoldable pub contentEnd : ℕ → ℕ → ℕ
-  contentEnd from n = cond (ltb (length s) (from + n)) (length s) (from + n)
-
   -- the position behind a head, and behind a byte string's content; the end where no head stands
   abbrev pub behind : Head → ℕ
   behind Broken = length s
-  behind (Of major info n next) = cond (eqb major 2) (contentEnd next n) next
+  behind (Of major info n next) = cond (eqb major 2) (endOf s next n) next
 
   -- one of the heads from a position on, at most k of them, is not the shortest
   unfoldable pub scan : ℕ → ℕ → Bool

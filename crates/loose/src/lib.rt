@@ -4,22 +4,7 @@ ghost use mathlib.Core.Path.{_≡_};
 ghost use Prim.Native.Nat.{_%_, _<_};
 ghost use lib.ListN.{length, getD};
 ghost use Rattle.cbor.specs.Cbor.{headAt};
-ghost use Rattle.loose.specs.Scan.{contentEnd, behind, scanned};
-
-// The position behind n bytes from `from` on, the end where there are fewer. The length is never added before it is compared with what is
-// there.
-fn content_end(s: &[u8], from: usize, n: u64) -> usize
-    ensures { λ r. ⌜ r ≡ contentEnd (now (s .entry)) from n ⌝ }
-{
-    if s.len() < from {
-        return s.len();
-    }
-    let room = (s.len() - from) as u64;
-    if room < n {
-        return s.len();
-    }
-    from + (n as usize)
-}
+ghost use Rattle.loose.specs.Scan.{behind, scanned};
 
 // The position behind a head, and behind a byte string's content.
 fn behind(s: &[u8], h: Head) -> usize
@@ -37,7 +22,7 @@ fn behind(s: &[u8], h: Head) -> usize
     if major != 2 {
         return next;
     }
-    content_end(s, next, value)
+    cbor::end_of(s, next, value)
 }
 
 // The same of the head at a position where its first byte holds its number: no other is read.
@@ -50,7 +35,7 @@ fn behind_first(s: &[u8], at: usize) -> usize
     if b / 32 != 2 {
         return next;
     }
-    content_end(s, next, (b % 32) as u64)
+    cbor::end_of(s, next, (b % 32) as u64)
 }
 
 // Whether one of the heads, which stand one behind the other up to the end of the bytes, is not the shortest. One whose first byte holds

@@ -73,7 +73,7 @@ pub(crate) fn say_help() {
           Each FILE is a channel of its own, and of several the name stands before the lines; - is standard input, and so is no FILE.\n\
           Lines look like these:\n\
           \n\
-          command 3 data 0 name 'set' args {'magnet': 4, 'on': true}\n\
+          command 3 data 0 loose 0 name 'set' args {'magnet': 4, 'on': true}\n\
           data 1 last 0 4 bytes 'slow'\n\
           refused 24 at byte 71: whole command isn't one CBOR item of the subset\n",
     );

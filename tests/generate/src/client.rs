@@ -3,6 +3,7 @@
 //! way that is wanted.
 
 use crate::commands;
+use crate::loose::one_loose;
 use crate::random::Random;
 use std::collections::BTreeSet;
 
@@ -101,12 +102,18 @@ fn good_command(random: &mut Random) -> Vec<u8> {
             let length = random.pick(&[100, 2047, LONGEST_COMMAND]);
             command_of(length, random)
         }
-        _ => loop {
-            let command = commands::good(random);
-            if command.len() <= LONGEST_COMMAND {
-                return command;
-            }
-        },
+        5 => short_enough(|| one_loose(random).command),
+        _ => short_enough(|| commands::good(random)),
+    }
+}
+
+/// The first one made that is no longer than a command may be.
+fn short_enough(mut make: impl FnMut() -> Vec<u8>) -> Vec<u8> {
+    loop {
+        let command = make();
+        if command.len() <= LONGEST_COMMAND {
+            return command;
+        }
     }
 }
 

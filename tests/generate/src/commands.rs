@@ -2,6 +2,7 @@
 
 use crate::faults;
 use crate::item::{self, bytes, write, Item};
+use crate::loose::one_loose;
 use crate::random::Random;
 use crate::Case;
 
@@ -108,6 +109,7 @@ pub fn case(seed: u64, index: u64) -> Case {
         0..=19 => large(random),
         20..=79 => no_map(random),
         80..=379 => damaged(random),
+        380..=859 => one_loose(random),
         _ => drafted(random),
     }
 }
@@ -117,6 +119,13 @@ pub fn good(random: &mut Random) -> Vec<u8> {
     let mut draft = Draft::good(random);
     faults::twist(&mut draft, random);
     finish(draft, random).command
+}
+
+/// A command that passes the check and has the shortest heads.
+pub fn shortest(random: &mut Random) -> Case {
+    let mut draft = Draft::good(random);
+    faults::twist(&mut draft, random);
+    written(draft, random, 0)
 }
 
 /// The bytes of a command with a reason for 24, 25 or 26.
@@ -166,8 +175,13 @@ fn edit(draft: &mut Draft, random: &mut Random) {
 }
 
 fn finish(draft: Draft, random: &mut Random) -> Case {
-    let key = lookup_key(&draft, random);
     let wide = random.pick(&[0, 10, 50, 100]);
+    written(draft, random, wide)
+}
+
+/// The case of a draft, with so many heads in a hundred wider than they need be.
+fn written(draft: Draft, random: &mut Random, wide: usize) -> Case {
+    let key = lookup_key(&draft, random);
     let item = draft.into_item(random);
     Case {
         command: write(&item, random, wide),
@@ -223,9 +237,7 @@ fn collect_keys<'d>(
 fn deeper_key(draft: &Draft, random: &mut Random) -> Vec<u8> {
     let mut keys = Vec::new();
     let arguments = draft.args.iter().flatten();
-    let values = arguments
-        .map(|(_, value)| value)
-        .chain(&draft.redirect);
+    let values = arguments.map(|(_, value)| value).chain(&draft.redirect);
     for value in values {
         if let Item::Map(entries) = value {
             collect_keys(entries, &mut keys);

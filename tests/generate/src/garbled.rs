@@ -19,7 +19,10 @@ pub fn garbled(seed: u64, index: u64) -> Vec<u8> {
     let short = sends.filter(|line| line.len() < 10_000);
     let looked = short.flat_map(|line| [line, "tail".to_string()]);
     let steps = (3 * index..3 * index + 3).flat_map(|index| board_step(seed, index).lines());
-    let boards = steps.flat_map(|line| [line.replace("board ", "count "), line]);
+    let boards = steps.flat_map(|line| {
+        let other = |call: &str| line.replace("board ", call);
+        [other("count "), other("loose "), line]
+    });
     for line in session(seed, index).into_iter().chain(looked).chain(boards) {
         if line.starts_with("set ") && random.percent(20) {
             text.extend(too_wide(&line, random).into_bytes());
@@ -105,7 +108,7 @@ fn noise(random: &mut Random) -> Vec<u8> {
     if random.percent(50) {
         return random.bytes(count);
     }
-    let signs = b"0123456789abcdef fresh set feed poke send none state board count -:,#";
+    let signs = b"0123456789abcdef fresh set feed poke send none state board count loose -:,#";
     (0..count).map(|_| random.pick(signs)).collect()
 }
 

@@ -22,6 +22,7 @@ pub const BYTES: u8 = 2;
 pub const ARRAY: u8 = 4;
 pub const MAP: u8 = 5;
 pub const TAG: u8 = 6;
+pub const SIMPLE: u8 = 7;
 pub const SET_TAG: u64 = 258;
 
 pub fn bytes(content: &[u8]) -> Item {
@@ -38,7 +39,8 @@ pub fn put_head(out: &mut Vec<u8>, major: u8, info: u8, argument: u64) {
     }
 }
 
-fn shortest_info(argument: u64) -> u8 {
+/// The info of the shortest head.
+pub fn shortest_info(argument: u64) -> u8 {
     match argument {
         0..=23 => argument as u8,
         24..=0xff => 24,

@@ -1,8 +1,8 @@
-//! Makes commands to compare two readers on: good ones, ones with a known
-//! fault, and damaged ones; sessions of a channel, as lines of `replay`, and
-//! the same lines damaged; captures of the line; requests to be sent; commands
-//! for a board; and commands for the search for double keys. The same seed and
-//! index give the same ones on every machine.
+//! Makes commands to compare two readers on: good ones, ones with one loose
+//! head, ones with a known fault, and damaged ones; sessions of a channel, as
+//! lines of `replay`, and the same lines damaged; captures of the line; requests
+//! to be sent; commands for a board; and commands for the search for double keys.
+//! The same seed and index give the same ones on every machine.
 
 mod boards;
 mod captures;
@@ -12,9 +12,11 @@ mod cuts;
 mod faults;
 pub mod fixed;
 mod garbled;
+mod heads;
 mod item;
 mod key_sets;
 mod keys;
+mod loose;
 mod random;
 mod refused;
 mod sends;
@@ -25,6 +27,7 @@ pub use boards::{board_capture, board_step, BoardStep};
 pub use captures::capture;
 pub use commands::case;
 pub use garbled::garbled;
+pub use heads::{heads, Head, Place};
 pub use keys::key_command;
 pub use random::Random;
 pub use sends::{sending, Sending, FAULTS};

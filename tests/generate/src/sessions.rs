@@ -224,10 +224,11 @@ fn lookups(seed: u64, index: u64, random: &mut Random, lines: &mut Vec<String>) 
     for turn in 0..random.between(12, 30) as u64 {
         let case = commands::case(seed, index * 30 + turn);
         let (command, key) = (hex(&case.command), hex(&case.key));
-        let line = match random.below(6) {
+        let line = match random.below(7) {
             0 => format!("check {command}"),
             1 => format!("name {command}"),
-            2 | 3 => format!("arg {command} {key}"),
+            2 => format!("loose {command}"),
+            3 | 4 => format!("arg {command} {key}"),
             _ => format!("int {command} {key}"),
         };
         lines.push(line);
@@ -235,7 +236,7 @@ fn lookups(seed: u64, index: u64, random: &mut Random, lines: &mut Vec<String>) 
     lend(random, lines);
 }
 
-const UNREADABLE: [&str; 31] = [
+const UNREADABLE: [&str; 33] = [
     "fresh",
     "fresh 100001",
     "fresh 20488 256",
@@ -263,6 +264,8 @@ const UNREADABLE: [&str; 31] = [
     "worksums",
     "check 0",
     "arg 00",
+    "loose",
+    "loose 0g",
     "set 0 0 0:f:0:0 -",
     "set 256 0 0:f:0:0 0:f:0:0 0:f:0:0 0:f:0:0 0:f:0:0 0:f:0:0 0:f:0:0 0:f:0:0 -",
     "set 0 65536 0:f:0:0 0:f:0:0 0:f:0:0 0:f:0:0 0:f:0:0 0:f:0:0 0:f:0:0 0:f:0:0 -",

@@ -101,6 +101,7 @@ impl Driver {
             [b"arg", command, key] => self.argument(command, key),
             [b"int", command, key] => self.integer(command, key),
             [b"count", command] => self.count(command),
+            [b"loose", command] => self.loose(command),
             [b"board"] => Some(self.board_words()),
             [b"board", b"fresh"] => Some(self.first_board()),
             [b"board", command] => self.apply(command),
@@ -246,6 +247,11 @@ impl Driver {
     fn count(&mut self, command: &[u8]) -> Option<String> {
         let command = self.command.put(&bytes(command)?);
         Some(format!("counted {}", hgrpc::argument_count(command)))
+    }
+
+    fn loose(&mut self, command: &[u8]) -> Option<String> {
+        let command = self.command.put(&bytes(command)?);
+        Some(format!("loose {}", u8::from(hgrpc::loose(command))))
     }
 
     fn first_board(&mut self) -> String {

@@ -63,7 +63,10 @@ pub fn walk(capture: &[u8], mut each: impl FnMut(&Record)) -> End {
 pub struct Record<'r> {
     pub is_command: bool,
     pub request: u16,
+    /// The data bit of a command, the last bit of data.
     pub bit: u8,
+    /// The mark of a command, 1 if it is written loosely; 0 of data.
+    pub loose: u8,
     pub content: &'r [u8],
 }
 
@@ -74,7 +77,8 @@ impl<'r> Record<'r> {
         Record {
             is_command: number(2) == 1,
             request: number(4),
-            bit: record[6],
+            bit: record[6] % 2,
+            loose: record[6] / 2,
             content: &record[7..],
         }
     }
@@ -99,7 +103,9 @@ impl<'r> Record<'r> {
         };
         let name = under(b"name").expect("a command has a name");
         let args = under(b"args").unwrap_or_else(|| notation(&Value::Map(vec![])));
-        let mut line = format!("command {request} data {bit} name {name} args {args}");
+        let loose = self.loose;
+        let mut line =
+            format!("command {request} data {bit} loose {loose} name {name} args {args}");
         if let Some(redirect) = under(b"redirect") {
             line += &format!(" redirect {redirect}");
         }
@@ -193,10 +199,28 @@ mod tests {
     #[test]
     fn first_trace() {
         let t1 = b"\x10\0\0\x01\0\x01\x01\x11\xa2\x44name\x43set\x44args\xa0";
-        let line = "command 1 data 0 name 'set' args {}\n";
+        let line = "command 1 data 0 loose 0 name 'set' args {}\n";
         assert_eq!(lines(t1, |_| String::new()), line);
         let more = [&t1[..], b"\0"].concat();
         let end = "the input ends inside a frame, after 1 of its bytes\n";
         assert_eq!(lines(&more, |_| String::new()), line.to_string() + end);
+    }
+
+    /// E5: T1's command in other heads, three times. Without data it runs and is
+    /// finished, so that its id is free for the next; with data it runs after
+    /// that.
+    #[test]
+    fn loose_commands() {
+        let frame = |last: u8| {
+            let header = [&b"\x12\0\0\x01\0\x01\x03"[..], &[last]].concat();
+            [&header[..], b"\xb8\x02\x44name\x58\x03set\x44args\xa0"].concat()
+        };
+        let data = b"\x02\0\0\x01\0\x01\x03\x22hi".to_vec();
+        let capture = [frame(0x11), frame(0x19), data, frame(0x11)].concat();
+        let wanted = "command 1 data 0 loose 1 name 'set' args {}\n\
+            command 1 data 1 loose 1 name 'set' args {}\n\
+            data 1 last 1 2 bytes 'hi'\n\
+            command 1 data 0 loose 1 name 'set' args {}\n";
+        assert_eq!(lines(&capture, |_| String::new()), wanted);
     }
 }

@@ -1,6 +1,6 @@
 //! Judges the tree of a command, and looks arguments up in it.
 
-use crate::value::{read_entries, read_whole, Value};
+use crate::value::{is_loose, read_entries, read_whole, Value};
 
 #[derive(Clone, Copy, Debug, PartialEq, Eq)]
 pub enum Refusal {
@@ -122,6 +122,12 @@ pub fn lacks_args(command: &[u8]) -> bool {
     read(command).is_ok_and(|command| command.args.is_none())
 }
 
+/// Whether the command passes the check and is written loosely: a head in it,
+/// wherever it stands, is not the shortest for its number.
+pub fn loose(command: &[u8]) -> bool {
+    read(command).is_ok() && is_loose(command)
+}
+
 /// The number of arguments; 0 if the command is refused.
 pub fn argument_count(command: &[u8]) -> u64 {
     read(command).map_or(0, |command| command.arguments().len() as u64)
@@ -226,6 +232,81 @@ mod tests {
         assert_eq!(argument_count(&first), 2);
         assert_eq!(argument_count(&bytes), 1);
         assert_eq!(argument_count(&bytes[1..]), 0);
+    }
+
+    /// The heads of a command in their order: the place of each, its type, its
+    /// number, and what stands behind it.
+    const HEADS: [(&str, u8, u64, &[u8]); 25] = [
+        ("the outer map's head", 5, 3, b""),
+        ("name's key", 2, 4, b"name"),
+        ("name", 2, 3, b"set"),
+        ("args' key", 2, 4, b"args"),
+        ("args' head", 5, 4, b""),
+        ("an argument's key", 2, 1, b"a"),
+        ("an argument that is an integer", 0, 5, b""),
+        ("the key of an array", 2, 1, b"b"),
+        ("an array's head", 4, 3, b""),
+        ("a negative integer in an array", 1, 0, b""),
+        ("a byte string in an array", 2, 2, b"\x18\x01"),
+        ("an array in an array", 4, 0, b""),
+        ("the key of a deeper map", 2, 1, b"c"),
+        ("a deeper map's head", 5, 1, b""),
+        ("a key in a deeper map", 0, 0, b""),
+        ("a value in a deeper map", 1, 23, b""),
+        ("the key of a set", 2, 1, b"d"),
+        ("a set's tag", 6, 258, b""),
+        ("a set's array", 4, 3, b""),
+        ("a set's member", 0, 23, b""),
+        ("a byte string in a set", 2, 0, b"\xf6"),
+        ("redirect's key", 2, 8, b"redirect"),
+        ("redirect's head", 5, 1, b""),
+        ("a key in redirect", 0, 9, b""),
+        ("a value in redirect", 1, 9, b""),
+    ];
+
+    /// The command of these heads, each as short as can be, but for the one in
+    /// this place, which is written by the info.
+    fn written(loose: usize, info: u8) -> Vec<u8> {
+        let mut bytes = Vec::new();
+        for (place, (_, major, number, behind)) in HEADS.iter().enumerate() {
+            let shortest = if *number < 24 { *number as u8 } else { 25 };
+            let info = if place == loose { info } else { shortest };
+            let width = if info < 24 { 0 } else { 1 << (info - 24) };
+            bytes.push(major << 5 | info);
+            bytes.extend(&number.to_be_bytes()[8 - width..]);
+            bytes.extend(*behind);
+        }
+        bytes
+    }
+
+    /// E5: one head that is not the shortest makes the command loose, in
+    /// whatever place.
+    #[test]
+    fn loose_in_each_place() {
+        let shortest = written(HEADS.len(), 0);
+        assert_eq!((check(&shortest), loose(&shortest)), (0, false));
+        for (place, (name, _, number, _)) in HEADS.iter().enumerate() {
+            for info in (24..28).filter(|info| *info > 25 || *number < 24) {
+                let bytes = written(place, info);
+                assert_eq!((check(&bytes), loose(&bytes)), (0, true), "{name}, {info}");
+            }
+        }
+    }
+
+    /// E5: a command that the check refuses is not loose, whatever its heads.
+    #[test]
+    fn refused_is_not_loose() {
+        for (bytes, number) in [
+            (&b"\xb8\x02"[..], 24),
+            (b"\xb8\x01\x44name\x43set\0", 24),
+            (b"\x18\x01", 25),
+            (b"\xb8\x01\x44args\xa0", 25),
+            (b"\xb8\x02\x44name\x43set\x44name\x43set", 26),
+        ] {
+            assert_eq!((check(bytes), loose(bytes)), (number, false));
+        }
+        assert!(loose(b"\xb8\x01\x44name\x43set"));
+        assert!(!loose(b"\xa1\x44name\x43set"));
     }
 
     /// T8 and T9.

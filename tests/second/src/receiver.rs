@@ -205,11 +205,13 @@ impl History {
     /// The record of a frame that breaks no rule, before it is accepted.
     fn record(&self, frame: &Frame) -> Vec<u8> {
         if frame.makes_whole() {
-            let bit = frame.is_command(WITH_DATA);
-            record(1, frame.request(), bit, &self.command(frame))
+            let command = self.command(frame);
+            let data = u8::from(frame.is_command(WITH_DATA));
+            let mark = u8::from(command::loose(&command));
+            record(1, frame.request(), mark << 1 | data, &command)
         } else if frame.kind() == DATA {
-            let bit = frame.flags() == LAST_DATA;
-            record(2, frame.request(), bit, frame.payload())
+            let last = u8::from(frame.flags() == LAST_DATA);
+            record(2, frame.request(), last, frame.payload())
         } else {
             Vec::new()
         }
@@ -299,13 +301,14 @@ const RULES: [(u8, Broken); 18] = [
     }),
 ];
 
-fn record(kind: u16, request: u16, bit: bool, content: &[u8]) -> Vec<u8> {
+/// `third` is the body's third byte.
+fn record(kind: u16, request: u16, third: u8, content: &[u8]) -> Vec<u8> {
     let body = (3 + content.len()) as u16;
     let mut record = Vec::with_capacity(RECORD);
     for number in [body, kind, request] {
         record.extend(number.to_le_bytes());
     }
-    record.push(u8::from(bit));
+    record.push(third);
     record.extend(content);
     record
 }
@@ -589,7 +592,9 @@ impl Uncut {
         if whole {
             let number = command::check(&own[..length]) as u8;
             refuse_if(number != 0, number)?;
-            let whole_record = record(1, frame.request(), data, &own[..length]);
+            let mark = if command::loose(&own[..length]) { 2 } else { 0 };
+            let third = u8::from(data) + mark;
+            let whole_record = record(1, frame.request(), third, &own[..length]);
             self.records.extend(whole_record);
         }
         self.state.slots[seat] = Slot {
@@ -628,7 +633,7 @@ impl Uncut {
         if last {
             slot.phase = Phase::Running;
         }
-        let data_record = record(2, frame.request(), last, frame.payload());
+        let data_record = record(2, frame.request(), last.into(), frame.payload());
         self.records.extend(data_record);
         Ok(())
     }

@@ -77,6 +77,7 @@ impl Replay {
             ["arg", bytes, key] => argument(bytes, key),
             ["int", bytes, key] => integer(bytes, key),
             ["count", bytes] => count(bytes),
+            ["loose", bytes] => loose(bytes),
             ["board"] => Some(board_text(&self.board)),
             ["board", "fresh"] => Some(self.first_board()),
             ["board", command] => self.apply(command),
@@ -209,6 +210,11 @@ fn integer(bytes: &str, key: &str) -> Option<String> {
 fn count(bytes: &str) -> Option<String> {
     let bytes = from_hex(bytes)?;
     Some(format!("counted {}", command::argument_count(&bytes)))
+}
+
+fn loose(bytes: &str) -> Option<String> {
+    let mark = u8::from(command::loose(&from_hex(bytes)?));
+    Some(format!("loose {mark}"))
 }
 
 /// The board's coils, each with its switch, its label's length and all of the
@@ -383,7 +389,7 @@ mod tests {
             send 9 61 18446744073709551616 - 1 1 0 0 1 none|send 100001 61 0 - 1 1 0 0 1 none|\
             send 9 6 0 - 1 1 0 0 1 none|send 9 61 0 0g 1 1 0 0 1 none|send 9 none 0 - 1 1 0 0 1 none|\
             send 9 61 0 none 1 1 0 0 1 none|send 9 61 0 - 1 1 0 0 1 None|send 9 61 -1 - 1 1 0 0 1 none|\
-            count|count 0|count 00 00|board |board 0|board 0A|board Fresh|board fresh fresh|board 00 00|board  00|boards";
+            count|count 0|count 00 00|loose|loose 0|loose 0A|loose 00 00|board |board 0|board 0A|board Fresh|board fresh fresh|board 00 00|board  00|boards";
         for line in lines.split('|') {
             let answer = replay.answer(line.as_bytes());
             assert_eq!(answer.as_deref(), Some("bad"), "{line}");
@@ -410,6 +416,35 @@ mod tests {
             ("board".to_string(), format!("board{empty}")),
             (format!("count {set}"), "counted 2".to_string()),
             ("count -".to_string(), "counted 0".to_string()),
+        ] {
+            assert_eq!(replay.answer(line.as_bytes()), Some(answer), "{line}");
+        }
+    }
+
+    /// T1's command, then in other heads: its mark, and the record of a frame
+    /// with it, without data and with data.
+    #[test]
+    fn loose_commands() {
+        let mut replay = Replay::default();
+        let command = "a2446e616d65437365744461726773a0";
+        let other = "a2446e616d6558037365744461726773a0";
+        for (line, answer) in [
+            (format!("loose {command}"), "loose 0".to_string()),
+            (format!("loose {other}"), "loose 1".to_string()),
+            (format!("loose {other}00"), "loose 0".to_string()),
+            ("loose -".to_string(), "loose 0".to_string()),
+            (
+                format!("feed 5000 1000000100010111{command}"),
+                format!("fed 0 24 23 13000100010000{command}"),
+            ),
+            (
+                format!("feed 5000 1100000300010011{other}"),
+                format!("fed 0 25 24 14000100030002{other}"),
+            ),
+            (
+                format!("feed 5000 1100000500010019{other}"),
+                format!("fed 0 25 24 14000100050003{other}"),
+            ),
         ] {
             assert_eq!(replay.answer(line.as_bytes()), Some(answer), "{line}");
         }

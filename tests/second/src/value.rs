@@ -6,6 +6,10 @@ pub const LEVELS: usize = 8;
 /// The one tag of the subset. It stands before an array and makes it a set.
 const SET_TAG: u64 = 258;
 
+/// RFC 7049's rule: the least number that does not fit a shorter head, by the
+/// head's info from 24 on.
+const LEAST: [u64; 4] = [24, 1 << 8, 1 << 16, 1 << 32];
+
 #[derive(Clone, Debug, PartialEq, Eq, PartialOrd, Ord)]
 pub enum Value<'a> {
     Unsigned(u64),
@@ -23,15 +27,22 @@ pub enum Value<'a> {
 /// The tree of the one item that fills `bytes`. None if the bytes are not
 /// an item of the subset, or if some are missing or left over.
 pub fn read_whole(bytes: &[u8]) -> Option<Value<'_>> {
-    let mut reader = Reader { rest: bytes };
+    let mut reader = Reader::new(bytes);
     let value = reader.value(LEVELS)?;
     reader.rest.is_empty().then_some(value)
+}
+
+/// Whether the item that `bytes` begin with has a head that is not the
+/// shortest for its number. False if they begin with no item of the subset.
+pub fn is_loose(bytes: &[u8]) -> bool {
+    let mut reader = Reader::new(bytes);
+    reader.value(LEVELS).is_some() && reader.loose
 }
 
 /// The entries of the map that fills `bytes`, each with its value as the
 /// bytes of the whole item. None if the bytes are no such map.
 pub fn read_entries(bytes: &[u8]) -> Option<Vec<(Value<'_>, &[u8])>> {
-    let mut reader = Reader { rest: bytes };
+    let mut reader = Reader::new(bytes);
     let head = reader.head()?;
     if head.major != 5 {
         return None;
@@ -53,11 +64,28 @@ struct Head {
     argument: u64,
 }
 
+impl Head {
+    /// A number below 24 stands in the first byte, and false, true and null
+    /// have no other head.
+    fn is_shortest(&self) -> bool {
+        self.info < 24 || self.argument >= LEAST[usize::from(self.info) - 24]
+    }
+}
+
 struct Reader<'a> {
     rest: &'a [u8],
+    /// Whether a head so far was not the shortest.
+    loose: bool,
 }
 
 impl<'a> Reader<'a> {
+    fn new(bytes: &'a [u8]) -> Reader<'a> {
+        Reader {
+            rest: bytes,
+            loose: false,
+        }
+    }
+
     fn take(&mut self, count: u64) -> Option<&'a [u8]> {
         let count = usize::try_from(count).ok()?;
         let (taken, rest) = self.rest.split_at_checked(count)?;
@@ -73,11 +101,13 @@ impl<'a> Reader<'a> {
             24..=27 => self.big_endian(1 << (info - 24))?,
             _ => return None,
         };
-        Some(Head {
+        let head = Head {
             major: first >> 5,
             info,
             argument,
-        })
+        };
+        self.loose |= !head.is_shortest();
+        Some(head)
     }
 
     fn big_endian(&mut self, width: u64) -> Option<u64> {
@@ -190,6 +220,71 @@ mod tests {
             bytes.extend(&zeros[1..width]);
             bytes.extend([2, 0x68, 0x69]);
             assert_eq!(read_whole(&bytes), Some(Value::Bytes(b"hi")));
+        }
+    }
+
+    /// Whether a head by this info, which holds the number, is noted, for each
+    /// type. What a head is of need not follow.
+    fn loose_heads(info: u8, number: u64) -> [bool; 6] {
+        let width = 1 << (info - 24);
+        [0, 1, 2, 4, 5, 6].map(|major: u8| {
+            let bytes = [&[major << 5 | info], &number.to_be_bytes()[8 - width..]].concat();
+            let mut reader = Reader::new(&bytes);
+            assert!(reader.head().is_some_and(|head| head.argument == number));
+            reader.loose
+        })
+    }
+
+    /// The numbers at the edges, and the info of the shortest head of each.
+    #[test]
+    fn shortest_heads() {
+        for (number, shortest) in [
+            (0, 0),
+            (23, 23),
+            (24, 24),
+            (255, 24),
+            (256, 25),
+            (65_535, 25),
+            (65_536, 26),
+            (0xffff_ffff, 26),
+            (0x1_0000_0000, 27),
+            (u64::MAX, 27),
+        ] {
+            for info in shortest.max(24)..28 {
+                let loose = info > shortest;
+                assert_eq!(loose_heads(info, number), [loose; 6], "{number} by {info}");
+            }
+        }
+        for first in (0..=0xff_u8).filter(|first| first & 0x1f < 24) {
+            let bytes = [first];
+            let mut reader = Reader::new(&bytes);
+            assert!(reader.head().is_some() && !reader.loose, "{first:02x}");
+        }
+    }
+
+    #[test]
+    fn loose_items() {
+        let cases: [(&[u8], bool); 17] = [
+            (b"\x17", false),
+            (b"\x18\x17", true),
+            (b"\x18\x18", false),
+            (b"\x38\x17", true),
+            (b"\x58\x01a", true),
+            (b"\x42\x18\x01", false),
+            (b"\x81\x18\x01", true),
+            (b"\x98\x01\x01", true),
+            (b"\xb8\x01\x01\x01", true),
+            (b"\xa1\x18\x01\x01", true),
+            (b"\xa1\x01\x18\x01", true),
+            (b"\xd9\x01\x02\x81\x01", false),
+            (b"\xda\0\0\x01\x02\x81\x01", true),
+            (b"\xd9\x01\x02\x98\x01\x01", true),
+            (b"\xd9\x01\x02\x81\x18\x01", true),
+            (b"\x83\xf4\xf5\xf6", false),
+            (b"\x82\x18\x01", false),
+        ];
+        for (bytes, loose) in cases {
+            assert_eq!(is_loose(bytes), loose, "{bytes:02x?}");
         }
     }
 

@@ -13,8 +13,6 @@ use Rattle.buffer.specs.Bytes.{write}
 use Rattle.buffer.proofs.WriteLaws.{write-out, write-twice}
 use Rattle.cbor.proofs.put_head.Statement.{statement}
 use Rattle.cbor.proofs.put_head.Tie as tie
-use Rattle.cbor.proofs.put_head.Reads as reads
-use Rattle.cbor.proofs.put_head.Lts as lts
 
 below : (info n : ℕ) → info ≡ shortest n → info < 28
 below info n h = rw h (shortest-narrow n .unreserved)

@@ -12,7 +12,7 @@ returns-2 : tie.Need-returns-2
 returns-2 c = rw (c .before .before .h .given .1, ne-eqb _ 2 (c .if1 .taken))
 
 returns-3 : tie.Need-returns-3
-returns-3 c = rw (c .before .before .before .h .given .1, c .before .if1 .left) (c .content-end .ensures)
+returns-3 c = rw (c .before .before .before .h .given .1, c .before .if1 .left) (c .end-of .ensures)
 
 pub behind-spec : {M : Type 1} → statement M
 behind-spec = tie.close (tie.spec (λ c. search needs) (λ c. search needs) returns returns-2 (λ c κs. search needs) returns-3)

@@ -15,7 +15,7 @@ returns c =
 returns-2 : tie.Need-returns-2
 returns-2 c =
     let p = c .before .before .before .before .pre in
-    rw (first-byte _ _ _ refl (p .0) (p .1), c .before .if1 .left) (c .content-end .ensures)
+    rw (first-byte _ _ _ refl (p .0) (p .1), c .before .if1 .left) (c .end-of .ensures)
 
 pub behind-first-spec : {M : Type 1} → statement M
 behind-first-spec = tie.close (tie.spec (λ c. search needs) (λ c. search needs) returns (λ c. search needs) (λ c κs. search needs) returns-2)
