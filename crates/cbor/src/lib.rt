@@ -63,9 +63,6 @@ fn big_endian(s: &[u8], at: usize, w: usize) -> u64
     requires { ⌜ (w ≤ 8) × (at + w ≤ length (now s)) ⌝ }
     ensures { λ r. ⌜ r ≡ bigEndian (now (s .entry)) at w ⌝ }
 {
-    if w == 1 {
-        return s[at] as u64;
-    }
     let mut v: u64 = 0;
     let mut i: usize = 0;
     while i < w {

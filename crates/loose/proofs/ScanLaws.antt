@@ -5,6 +5,7 @@ use mathlib.Core.Path.{_≡_, refl, sym, ap, _∙_, subst}
 use mathlib.Core.Bool.{Bool, true, false, cond, _||_, not, false≢true}
 use mathlib.Core.List.{List}
 use Prim.Native.Nat.{ℕ, zero, suc, _+_, _-_, _/_, _%_, _≤_, _<_}
+use native.Mathlib.Nat.{zero-add}
 use native.Mathlib.Omega.{arith}
 use lib.ListN.{length, getD}
 use lib.Dec.{ltb, leb, eqb}
@@ -15,10 +16,10 @@ use Rattle.cbor.specs.declared.Item.{Item}
 use Rattle.cbor.specs.declared.Item.the-variants.{Unsigned, Negative, Bytes, Simple, Array, Map, Set, Refused}
 use Rattle.cbor.specs.declared.Next.{Next}
 use Rattle.cbor.specs.declared.Next.the-variants.{At, Bad}
-use Rattle.cbor.specs.Cbor.{Reader, width, shortest, isShortest, headValue, headOf, headAt, endOf, bytesAt, setOf, tagged, itemOf, itemAt, andThen, repeat, scalarOf, key, pair, valueOf, value, whole, isItem}
+use Rattle.cbor.specs.Cbor.{Reader, width, shortest, isShortest, bigEndian, headValue, headOf, headAt, endOf, bytesAt, setOf, tagged, itemOf, itemAt, andThen, repeat, scalarOf, key, pair, valueOf, value, whole, isItem}
 use Rattle.cbor.proofs.Ahead.{by-test, Head-ahead, head-ahead}
 use Rattle.loose.specs.Loose.{Question, onward, anyOf, looseHeads, looseItem, loosePair, looseElements, loose}
-use Rattle.loose.specs.Scan.{behind, scan, scanned, ScanHolds}
+use Rattle.loose.specs.Scan.{behindOf, behind, scan, scanned, Skips, ScanHolds}
 
 or-assoc : (a b c : Bool) → ((a || b) || c) ≡ (a || (b || c))
 or-assoc true b c = refl
@@ -69,7 +70,7 @@ module _ (s : List ℕ) where
   unfolding scan
   ends p l = once-more p ∙ rw (le-ltb p (length s) l)
 
-  -- ---- a head whose first byte holds its number
+  -- ---- a head that its first two bytes tell to be the shortest
 
   no-width : (info : ℕ) → info < 24 → width info ≡ 0
   unfolding width
@@ -82,10 +83,36 @@ module _ (s : List ℕ) where
       let next : p + 1 + width (b % 32) ≡ p + 1 = omega arith in
       rw (← e, lt-leb 28 (b % 32) (omega arith), next, le-ltb (length s) (p + 1) (omega arith), lt-ltb (b % 32) 24 h)
 
-  -- it is the shortest
-  pub goes-first : (p : ℕ) → p < length s → getD s p 0 % 32 < 24 → from p ≡ from (behind s (headAt s p))
+  -- its first byte holds its number
+  pub by-first : (p b r : ℕ) → b ≡ getD s p 0 → p < length s → b % 32 < 24 → r ≡ behindOf s (b / 32) (b % 32) (p + 1) → Skips s p r
   unfolding shortest
-  goes-first p l h = goes p l ∙ rw (first-byte p (getD s p 0) refl l h, lt-ltb (getD s p 0 % 32) 24 h, eq-eqb (getD s p 0 % 32) (getD s p 0 % 32) refl)
+  by-first p b r e l h q =
+      let read = first-byte p b e l h in
+      record { shortest = λ _. rw (read, lt-ltb (b % 32) 24 h) (eq-eqb (b % 32) (b % 32) refl); on = λ _. rw read q }
+
+  one-width : width 24 ≡ 1
+  unfolding width
+  one-width = refl
+
+  second-byte : (p b n : ℕ) → b ≡ getD s p 0 → n ≡ getD s (p + 1) 0 → p + 1 < length s → b % 32 ≡ 24 → headAt s p ≡ Of (b / 32) 24 n (p + 1 + 1)
+  unfolding headAt headOf headValue bigEndian
+  second-byte p b n e f l h =
+      let here : p + 1 + 0 ≡ p + 1 = omega arith in
+      rw (← e, h, one-width, le-ltb (length s) (p + 1 + 1) (omega arith), here, ← f) (ap (λ (v : ℕ). Of (b / 32) 24 v (p + 1 + 1)) (zero-add n))
+
+  -- its second byte does, and is above what the first can hold
+  pub by-second : (p b n r : ℕ) → b ≡ getD s p 0 → n ≡ getD s (p + 1) 0 → n < 256 → p + 1 < length s → b % 32 ≡ 24 → 24 ≤ n → r ≡ behindOf s (b / 32) n (p + 1 + 1) → Skips s p r
+  unfolding shortest
+  by-second p b n r e f small l h k q =
+      let read = second-byte p b n e f l h in
+      record { shortest = λ _. rw (read, le-ltb n 24 k, lt-ltb n 256 small); on = λ _. rw read q }
+
+  -- where nothing is told, it does not go on
+  pub stays : (p : ℕ) → Skips s p p
+  stays p = record { shortest = λ h. absurd (omega arith); on = λ h. absurd (omega arith) }
+
+  pub goes-on : (p q : ℕ) → p < length s → Skips s p q → p < q → from p ≡ from q
+  goes-on p q l h k = goes p l ∙ rw (h .shortest k, ← h .on k)
 
   -- ---- a turn of the loop, at a head h
 

@@ -1,12 +1,12 @@
 -- `loose::scan` meets its contract: at every turn what is left to say is the scan from the position reached.
 -- Assumes nothing.
 use borrow.Author.Needs.{needs}
-use mathlib.Core.Path.{_≡_, refl, sym, ap, _∙_}
+use mathlib.Core.Path.{_≡_, refl, sym, _∙_}
 use Prim.Native.Nat.{_-_}
 use lib.ListN.{length}
 use native.Mathlib.Omega.{arith}
 use Rattle.loose.specs.Scan.{scanned}
-use Rattle.loose.proofs.ScanLaws.{from, goes-first, ends, nearer, turn}
+use Rattle.loose.proofs.ScanLaws.{from, goes-on, ends, nearer, turn}
 use Rattle.loose.proofs.scan.Statement.{statement}
 use Rattle.loose.proofs.scan.Tie as tie
 
@@ -20,36 +20,36 @@ loop-holds : tie.Need-loop-holds Inv-loop μ-loop
 unfolding scanned
 loop-holds c = refl
 
+skip-requires : tie.Need-skip-requires Inv-loop μ-loop
+skip-requires c κs = c .loop-test .taken
+
 loop-less : tie.Need-loop-less Inv-loop μ-loop
-loop-less c = nearer _ _ (c .before .before .before .loop-test .taken) _ refl _ (c .behind-first .ensures)
+loop-less c = omega (arith, c .if1 .taken, c .before .before .loop-test .taken)
 
 loop-again : tie.Need-loop-again Inv-loop μ-loop
 loop-again c =
-    let l = c .before .before .before in
-    l .before .loop .inv ∙ goes-first _ _ (l .loop-test .taken) (c .before .if1 .taken) ∙ ap (from _) (sym (c .behind-first .ensures))
+    let l = c .before .before in
+    l .before .loop .inv ∙ goes-on _ _ _ (l .loop-test .taken) (c .before .skip .ensures) (c .if1 .taken)
 
 returns : tie.Need-returns Inv-loop μ-loop
 returns c =
-    let h = c .before .before in
-    let l = h .before .before .before in
-    sym (l .before .loop .inv ∙ turn _ _ (l .loop-test .taken) _ (h .read-head .ensures) _ (c .before .is-shortest .ensures) ∙ rw (c .if2 .taken))
+    let r = c .before .before in
+    let l = r .before .before .before in
+    sym (l .before .loop .inv ∙ turn _ _ (l .loop-test .taken) _ (r .read-head .ensures) _ (c .before .is-shortest .ensures) ∙ rw (c .if2 .taken))
 
 loop-less-2 : tie.Need-loop-less-2 Inv-loop μ-loop
 loop-less-2 c =
-    let h = c .before .before .before in
-    nearer _ _ (h .before .before .before .loop-test .taken) _ (h .read-head .ensures) _ (c .behind .ensures)
+    let r = c .before .before .before in
+    nearer _ _ (r .before .before .before .loop-test .taken) _ (r .read-head .ensures) _ (c .behind .ensures)
 
 loop-again-2 : tie.Need-loop-again-2 Inv-loop μ-loop
 loop-again-2 c =
-    let h = c .before .before .before in
-    let l = h .before .before .before in
-    l .before .loop .inv ∙ turn _ _ (l .loop-test .taken) _ (h .read-head .ensures) _ (c .before .before .is-shortest .ensures) ∙ rw (c .before .if2 .left, c .behind .ensures)
+    let r = c .before .before .before in
+    let l = r .before .before .before in
+    l .before .loop .inv ∙ turn _ _ (l .loop-test .taken) _ (r .read-head .ensures) _ (c .before .before .is-shortest .ensures) ∙ rw (c .before .if2 .left, c .behind .ensures)
 
 returns-2 : tie.Need-returns-2 Inv-loop μ-loop
 returns-2 c = sym (c .before .loop .inv ∙ ends _ _ (omega arith))
-
-behind-first-requires : tie.Need-behind-first-requires Inv-loop μ-loop
-behind-first-requires c κs = (c .before .before .loop-test .taken, c .if1 .taken)
 
 pub scan-spec : {M : Type 1} → statement M
 scan-spec =
@@ -58,8 +58,7 @@ scan-spec =
     Inv-loop
     μ-loop
     loop-holds
-    (λ c. search needs)
-    behind-first-requires
+    skip-requires
     loop-less
     loop-again
     (λ c κs. search needs)
