@@ -143,7 +143,7 @@ width-least n info itself follows = by (ltb info 24) refl
     by false e = let l : 24 ≤ info = ltb-false info 24 e in width-enough n info l (follows l)
 
 -- the number that is read
-big-below : (s : List ℕ) → ((i : ℕ) → getD s i 0 < 256) → (at w : ℕ) → bigEndian s at w < 256 ^ w
+pub big-below : (s : List ℕ) → ((i : ℕ) → getD s i 0 < 256) → (at w : ℕ) → bigEndian s at w < 256 ^ w
 unfolding bigEndian
 big-below s bytes at zero = omega arith
 big-below s bytes at (suc w) = rw pow-suc (omega (arith, big-below s bytes at w, bytes (at + w)))

@@ -4,12 +4,12 @@
 use mathlib.Core.Path.{_≡_, refl, sym, ap, _∙_, subst}
 use mathlib.Core.Bool.{Bool, true, false, cond, _||_, not, false≢true}
 use mathlib.Core.List.{List}
-use Prim.Native.Nat.{ℕ, zero, suc, _+_, _-_, _/_, _%_, _≤_, _<_}
-use native.Mathlib.Nat.{zero-add}
+use Prim.Native.Nat.{ℕ, zero, suc, _+_, _-_, _*_, _/_, _%_, _^_, _≤_, _<_}
+use native.Mathlib.Nat.{zero-add, pow-zero, pow-suc, pow-le-pow-right}
 use native.Mathlib.Omega.{arith}
 use lib.ListN.{length, getD}
-use lib.Dec.{ltb, leb, eqb}
-use borrow.Author.Tests.{ltb-true, lt-ltb, lt-leb, le-ltb, eqb-true, ne-eqb, eq-eqb}
+use lib.Dec.{ltb, leb, eqb, lit<}
+use borrow.Author.Tests.{ltb-true, lt-ltb, lt-leb, le-ltb, eqb-true, eqb-false, ne-eqb, eq-eqb}
 use Rattle.cbor.specs.declared.Head.{Head}
 use Rattle.cbor.specs.declared.Head.the-variants.{Of, Broken}
 use Rattle.cbor.specs.declared.Item.{Item}
@@ -17,9 +17,11 @@ use Rattle.cbor.specs.declared.Item.the-variants.{Unsigned, Negative, Bytes, Si
 use Rattle.cbor.specs.declared.Next.{Next}
 use Rattle.cbor.specs.declared.Next.the-variants.{At, Bad}
 use Rattle.cbor.specs.Cbor.{Reader, width, shortest, isShortest, bigEndian, headValue, headOf, headAt, endOf, bytesAt, setOf, tagged, itemOf, itemAt, andThen, repeat, scalarOf, key, pair, valueOf, value, whole, isItem}
+use Rattle.cbor.proofs.HeadLaws.{big-below}
 use Rattle.cbor.proofs.Ahead.{by-test, Head-ahead, head-ahead}
 use Rattle.loose.specs.Loose.{Question, onward, anyOf, looseHeads, looseItem, loosePair, looseElements, loose}
-use Rattle.loose.specs.Scan.{behindOf, behind, scan, scanned, Skips, ScanHolds}
+use Rattle.loose.specs.Scan.{behindOf, behind, scan, scanned, ScanHolds}
+use Rattle.loose.specs.Skip.{Skips, Half}
 
 or-assoc : (a b c : Bool) → ((a || b) || c) ≡ (a || (b || c))
 or-assoc true b c = refl
@@ -70,42 +72,78 @@ module _ (s : List ℕ) where
   unfolding scan
   ends p l = once-more p ∙ rw (le-ltb p (length s) l)
 
-  -- ---- a head that its first two bytes tell to be the shortest
+  -- ---- heads that are passed without their number being read
 
   no-width : (info : ℕ) → info < 24 → width info ≡ 0
   unfolding width
   no-width info h = rw (lt-ltb info 24 h)
 
-  pub first-byte : (p b : ℕ) → b ≡ getD s p 0 → p < length s → b % 32 < 24 → headAt s p ≡ Of (b / 32) (b % 32) (b % 32) (p + 1)
+  first-byte : (p b : ℕ) → b ≡ getD s p 0 → p < length s → b % 32 < 24 → headAt s p ≡ Of (b / 32) (b % 32) (b % 32) (p + 1)
   unfolding headAt headOf headValue
   first-byte p b e l h =
       let none : width (b % 32) ≡ 0 = no-width (b % 32) h in
       let next : p + 1 + width (b % 32) ≡ p + 1 = omega arith in
       rw (← e, lt-leb 28 (b % 32) (omega arith), next, le-ltb (length s) (p + 1) (omega arith), lt-ltb (b % 32) 24 h)
 
-  -- its first byte holds its number
-  pub by-first : (p b r : ℕ) → b ≡ getD s p 0 → p < length s → b % 32 < 24 → r ≡ behindOf s (b / 32) (b % 32) (p + 1) → Skips s p r
+  -- the first byte holds the number
+  pub by-first : (p b q : ℕ) → b ≡ getD s p 0 → p < length s → b % 32 < 24 → q ≡ behindOf s (b / 32) (b % 32) (p + 1) → (p < q) × (from p ≡ from q)
   unfolding shortest
-  by-first p b r e l h q =
+  by-first p b q e l h r =
       let read = first-byte p b e l h in
-      record { shortest = λ _. rw (read, lt-ltb (b % 32) 24 h) (eq-eqb (b % 32) (b % 32) refl); on = λ _. rw read q }
+      let ahead : p < behind s (headAt s p) = behind-ahead p (headAt s p) (head-ahead s p) l in
+      (rw r (rw read at ahead), goes p l ∙ rw (read, lt-ltb (b % 32) 24 h, eq-eqb (b % 32) (b % 32) refl, ← r))
 
-  one-width : width 24 ≡ 1
+  -- a head with w bytes behind its first
+  wide-head : (p b w : ℕ) → b ≡ getD s p 0 → 24 ≤ b % 32 → b % 32 < 28 → width (b % 32) ≡ w → p + 1 + w ≤ length s
+      → headAt s p ≡ Of (b / 32) (b % 32) (bigEndian s (p + 1) w) (p + 1 + w)
+  unfolding headAt headOf headValue
+  wide-head p b w e h k q l = rw (← e, lt-leb 28 (b % 32) k, q, le-ltb (length s) (p + 1 + w) l, le-ltb (b % 32) 24 h)
+
+  one-byte : (p : ℕ) → bigEndian s p 1 ≡ getD s p 0
+  unfolding bigEndian
+  one-byte p =
+      let here : p + 0 ≡ p = omega arith in
+      rw here (zero-add (getD s p 0))
+
+  one-width : (info : ℕ) → info ≡ 24 → width info ≡ 1
   unfolding width
-  one-width = refl
+  one-width info e = rw e refl
 
-  second-byte : (p b n : ℕ) → b ≡ getD s p 0 → n ≡ getD s (p + 1) 0 → p + 1 < length s → b % 32 ≡ 24 → headAt s p ≡ Of (b / 32) 24 n (p + 1 + 1)
-  unfolding headAt headOf headValue bigEndian
-  second-byte p b n e f l h =
-      let here : p + 1 + 0 ≡ p + 1 = omega arith in
-      rw (← e, h, one-width, le-ltb (length s) (p + 1 + 1) (omega arith), here, ← f) (ap (λ (v : ℕ). Of (b / 32) 24 v (p + 1 + 1)) (zero-add n))
-
-  -- its second byte does, and is above what the first can hold
+  -- one byte behind the first holds it, and it is above what the first can hold
   pub by-second : (p b n r : ℕ) → b ≡ getD s p 0 → n ≡ getD s (p + 1) 0 → n < 256 → p + 1 < length s → b % 32 ≡ 24 → 24 ≤ n → r ≡ behindOf s (b / 32) n (p + 1 + 1) → Skips s p r
   unfolding shortest
   by-second p b n r e f small l h k q =
-      let read = second-byte p b n e f l h in
-      record { shortest = λ _. rw (read, le-ltb n 24 k, lt-ltb n 256 small); on = λ _. rw read q }
+      let read : headAt s p ≡ Of (b / 32) (b % 32) n (p + 1 + 1) =
+      wide-head p b 1 e (omega arith) (omega arith) (one-width (b % 32) h) (omega arith) ∙ rw (one-byte (p + 1), f) in
+      record { shortest = λ _. rw (read, le-ltb n 24 k, lt-ltb n 256 small, h); on = λ _. rw read q }
+
+  -- a byte that is not 0 makes the number large
+  large : (at w i : ℕ) → i < w → 0 < getD s (at + i) 0 → 256 ^ (w - 1 - i) ≤ bigEndian s at w
+  unfolding bigEndian
+  large at zero i l h = absurd (omega arith)
+  large at (suc w) i l h = by (eqb i w) refl (λ below. large at w i below h)
+    where
+      by : (t : Bool) → eqb i w ≡ t → (i < w → 256 ^ (w - 1 - i) ≤ bigEndian s at w) → 256 ^ (suc w - 1 - i) ≤ bigEndian s at w * 256 + getD s (at + w) 0
+      by true e before =
+          let same : i ≡ w = eqb-true i w e in
+          let none : suc w - 1 - i ≡ 0 = omega arith in
+          let here : 0 < getD s (at + w) 0 = rw same at h in
+          rw (none, pow-zero) (omega arith)
+      by false e before =
+          let below : i < w = omega (arith, eqb-false i w e) in
+          let more : suc w - 1 - i ≡ suc (w - 1 - i) = omega arith in
+          rw (more, pow-suc) (omega (arith, before below))
+
+  -- half of the bytes behind the first cannot hold it, for one of them is not 0
+  pub by-half : (p b h i r : ℕ) → b ≡ getD s p 0 → 25 ≤ b % 32 → b % 32 < 28 → (b / 32 ≡ 2 → ⊥) → Half (b % 32) h → p + 1 + 2 * h ≤ length s
+      → ((j : ℕ) → getD s j 0 < 256) → i < h → 0 < getD s (p + 1 + i) 0 → r ≡ p + 1 + 2 * h → Skips s p r
+  by-half p b h i r e low high o f l bytes k some q =
+      let w : ℕ = 2 * h in
+      let read = wide-head p b w e (omega arith) high (f .twice) l in
+      let least : 256 ^ (w - 1 - i) ≤ bigEndian s (p + 1) w = large (p + 1) w i (omega arith) some in
+      let half : 256 ^ h ≤ 256 ^ (w - 1 - i) = pow-le-pow-right (lit< tt) (omega arith) in
+      let is = f .told (bigEndian s (p + 1) w) (omega arith) (big-below s bytes (p + 1) w) in
+      record { shortest = λ _. rw (read, is) (eq-eqb (b % 32) (b % 32) refl); on = λ _. rw (read, ne-eqb (b / 32) 2 o) q }
 
   -- where nothing is told, it does not go on
   pub stays : (p : ℕ) → Skips s p p

@@ -1,2 +1,3 @@
 pub mod Loose
 pub mod Scan
+pub mod Skip

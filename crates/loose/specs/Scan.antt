@@ -1,7 +1,7 @@
 -- The same without recursion over containers: the heads one behind the other up to the end of the bytes, a byte string's content skipped.
 -- Bytes that are one item have no other heads, so both come to the same (`ScanHolds`, in proofs/ScanLaws.antt).
 -- These are definitions: they assume nothing.
-use Prim.Native.Nat.{ℕ, zero, suc, _<_}
+use Prim.Native.Nat.{ℕ, zero, suc}
 use mathlib.Core.Path.{_≡_}
 use mathlib.Core.List.{List}
 use mathlib.Core.Bool.{Bool, true, false, cond, _||_, not}
@@ -30,11 +30,6 @@ module _ (s : List ℕ) where
   -- one of all: each takes a byte or more
   unfoldable pub scanned : Bool
   scanned = scan (length s) 0
-
-  -- what the private function `skip` answers: where it goes on, the head is the shortest, and it goes on behind it
-  pub record Skips (at r : ℕ) : Type 0 where
-    pub shortest : at < r → isShortest (headAt s at) ≡ true
-    pub on : at < r → r ≡ behind (headAt s at)
 
 abbrev pub ScanHolds : Type 0
 ScanHolds = (s : List ℕ) → isItem s ≡ true → scanned s ≡ loose s 8 0

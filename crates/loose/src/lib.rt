@@ -1,9 +1,10 @@
 // Whether bytes are written loosely: one of their heads is not the shortest for its number.
 use cbor::Head;
 ghost use mathlib.Core.Path.{_≡_};
-ghost use Prim.Native.Nat.{_<_};
-ghost use lib.ListN.{length};
-ghost use Rattle.loose.specs.Scan.{behindOf, behind, scanned, Skips};
+ghost use Prim.Native.Nat.{_+_, _≤_, _<_};
+ghost use lib.ListN.{length, getD};
+ghost use Rattle.loose.specs.Scan.{behindOf, behind, scanned};
+ghost use Rattle.loose.specs.Skip.{Skips, Half};
 
 // The position behind a head that ends at `next`, and behind a byte string's content.
 fn behind_of(s: &[u8], major: u8, n: u64, next: usize) -> usize
@@ -31,19 +32,73 @@ fn behind(s: &[u8], h: Head) -> usize
     behind_of(s, major, value, next)
 }
 
-// The same of the head at a position, where its first two bytes tell that it is the shortest; else that position. No other byte of it is
-// read.
+// How many bytes are 0, of k from `from` on, before the first that is not.
+fn zeros(s: &[u8], from: usize, k: usize) -> usize
+    requires { ⌜ from + k ≤ length (now s) ⌝ }
+    ensures { λ r. ⌜ (r < k → 0 < getD (now (s .entry)) (from + r) 0) ⌝ }
+{
+    let mut i: usize = 0;
+    while i < k {
+        if s[from + i] != 0 {
+            return i;
+        }
+        i += 1;
+    }
+    k
+}
+
+// Half of the bytes that follow the first byte of a head, where these are two or more.
+fn half_of(info: u8) -> usize
+    requires { ⌜ (25 ≤ info) × (info < 28) ⌝ }
+    ensures { λ r. ⌜ Half info r ⌝ }
+{
+    if info == 25 {
+        return 1;
+    }
+    if info == 26 {
+        return 2;
+    }
+    4
+}
+
+// The position behind the head at a position, where it has two bytes or more behind its first, is not a byte string's, and is the shortest:
+// one of the first half of these bytes is not 0. Else that position.
+fn skip_wide(s: &[u8], at: usize) -> usize
+    requires { ⌜ at < length (now s) ⌝ }
+    ensures { λ r. ⌜ Skips (now (s .entry)) at r ⌝ }
+{
+    let b = s[at];
+    let info = b % 32;
+    if b / 32 == 2 {
+        return at;
+    }
+    if info < 25 {
+        return at;
+    }
+    if 27 < info {
+        return at;
+    }
+    let half = half_of(info);
+    let next = at + 1;
+    if s.len() - next < 2 * half {
+        return at;
+    }
+    if half <= zeros(s, next, half) {
+        return at;
+    }
+    next + 2 * half
+}
+
+// The position behind the head at a position and behind a byte string's content, where one byte follows its first and it is the shortest, or
+// by `skip_wide`. Else that position: the number has to be read.
 fn skip(s: &[u8], at: usize) -> usize
     requires { ⌜ at < length (now s) ⌝ }
     ensures { λ r. ⌜ Skips (now (s .entry)) at r ⌝ }
 {
     let b = s[at];
     let next = at + 1;
-    if b % 32 < 24 {
-        return behind_of(s, b / 32, (b % 32) as u64, next);
-    }
     if b % 32 != 24 {
-        return at;
+        return skip_wide(s, at);
     }
     if s.len() <= next {
         return at;
@@ -55,21 +110,27 @@ fn skip(s: &[u8], at: usize) -> usize
     behind_of(s, b / 32, n as u64, next + 1)
 }
 
-// Whether one of the heads, which stand one behind the other up to the end of the bytes, is not the shortest.
+// Whether one of the heads, which stand one behind the other up to the end of the bytes, is not the shortest. One whose first byte holds its
+// number always is.
 pub fn scan(s: &[u8]) -> bool
     ensures { λ r. ⌜ r ≡ scanned (now (s .entry)) ⌝ }
 {
     let mut p: usize = 0;
     while p < s.len() {
-        let q = skip(s, p);
-        if p < q {
-            p = q;
+        let b = s[p];
+        if b % 32 < 24 {
+            p = behind_of(s, b / 32, (b % 32) as u64, p + 1);
         } else {
-            let h = cbor::read_head(s, p);
-            if !cbor::is_shortest(h) {
-                return true;
+            let q = skip(s, p);
+            if p < q {
+                p = q;
+            } else {
+                let h = cbor::read_head(s, p);
+                if !cbor::is_shortest(h) {
+                    return true;
+                }
+                p = behind(s, h);
             }
-            p = behind(s, h);
         }
     }
     false
