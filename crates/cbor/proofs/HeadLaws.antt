@@ -120,7 +120,7 @@ short-itself : (n : ℕ) → ltb n 24 ≡ true → shortest n ≡ n
 unfolding shortest
 short-itself n e = rw e
 
-width-none : (n : ℕ) → ltb n 24 ≡ true → width n ≡ 0
+pub width-none : (n : ℕ) → ltb n 24 ≡ true → width n ≡ 0
 unfolding width
 width-none n e = rw e
 

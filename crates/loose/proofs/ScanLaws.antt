@@ -17,11 +17,11 @@ use Rattle.cbor.specs.declared.Item.the-variants.{Unsigned, Negative, Bytes, Si
 use Rattle.cbor.specs.declared.Next.{Next}
 use Rattle.cbor.specs.declared.Next.the-variants.{At, Bad}
 use Rattle.cbor.specs.Cbor.{Reader, width, shortest, isShortest, bigEndian, headValue, headOf, headAt, endOf, bytesAt, setOf, tagged, itemOf, itemAt, andThen, repeat, scalarOf, key, pair, valueOf, value, whole, isItem}
-use Rattle.cbor.proofs.HeadLaws.{big-below}
+use Rattle.cbor.proofs.HeadLaws.{width-none, big-below}
 use Rattle.cbor.proofs.Ahead.{by-test, Head-ahead, head-ahead}
 use Rattle.loose.specs.Loose.{Question, onward, anyOf, looseHeads, looseItem, loosePair, looseElements, loose}
 use Rattle.loose.specs.Scan.{behindOf, behind, scan, scanned, ScanHolds}
-use Rattle.loose.specs.Skip.{Skips, Half}
+use Rattle.loose.specs.Skip.{Skips, Halved}
 
 or-assoc : (a b c : Bool) → ((a || b) || c) ≡ (a || (b || c))
 or-assoc true b c = refl
@@ -34,7 +34,7 @@ or-false false = refl
 module _ (s : List ℕ) where
   -- ---- the scan goes ahead, so that as many heads as there are bytes are all of them
 
-  pub behind-ahead : (p : ℕ) (h : Head) → Head-ahead s p h → p < length s → p < behind s h
+  behind-ahead : (p : ℕ) (h : Head) → Head-ahead s p h → p < length s → p < behind s h
   unfolding endOf
   behind-ahead p Broken a l = l
   behind-ahead p (Of major info n next) a l =
@@ -74,14 +74,10 @@ module _ (s : List ℕ) where
 
   -- ---- heads that are passed without their number being read
 
-  no-width : (info : ℕ) → info < 24 → width info ≡ 0
-  unfolding width
-  no-width info h = rw (lt-ltb info 24 h)
-
   first-byte : (p b : ℕ) → b ≡ getD s p 0 → p < length s → b % 32 < 24 → headAt s p ≡ Of (b / 32) (b % 32) (b % 32) (p + 1)
   unfolding headAt headOf headValue
   first-byte p b e l h =
-      let none : width (b % 32) ≡ 0 = no-width (b % 32) h in
+      let none : width (b % 32) ≡ 0 = width-none (b % 32) (lt-ltb (b % 32) 24 h) in
       let next : p + 1 + width (b % 32) ≡ p + 1 = omega arith in
       rw (← e, lt-leb 28 (b % 32) (omega arith), next, le-ltb (length s) (p + 1) (omega arith), lt-ltb (b % 32) 24 h)
 
@@ -135,15 +131,16 @@ module _ (s : List ℕ) where
           rw (more, pow-suc) (omega (arith, before below))
 
   -- half of the bytes behind the first cannot hold it, for one of them is not 0
-  pub by-half : (p b h i r : ℕ) → b ≡ getD s p 0 → 25 ≤ b % 32 → b % 32 < 28 → (b / 32 ≡ 2 → ⊥) → Half (b % 32) h → p + 1 + 2 * h ≤ length s
-      → ((j : ℕ) → getD s j 0 < 256) → i < h → 0 < getD s (p + 1 + i) 0 → r ≡ p + 1 + 2 * h → Skips s p r
-  by-half p b h i r e low high o f l bytes k some q =
+  pub by-half : (p h i r : ℕ) → Halved s p h → p + 1 + 2 * h ≤ length s → ((j : ℕ) → getD s j 0 < 256) → i < h → 0 < getD s (p + 1 + i) 0
+      → r ≡ p + 1 + 2 * h → Skips s p r
+  by-half p h i r f l bytes k some q =
+      let b : ℕ = getD s p 0 in
       let w : ℕ = 2 * h in
-      let read = wide-head p b w e (omega arith) high (f .twice) l in
+      let read = wide-head p b w refl (f .wide) (f .known) (f .twice) l in
       let least : 256 ^ (w - 1 - i) ≤ bigEndian s (p + 1) w = large (p + 1) w i (omega arith) some in
       let half : 256 ^ h ≤ 256 ^ (w - 1 - i) = pow-le-pow-right (lit< tt) (omega arith) in
       let is = f .told (bigEndian s (p + 1) w) (omega arith) (big-below s bytes (p + 1) w) in
-      record { shortest = λ _. rw (read, is) (eq-eqb (b % 32) (b % 32) refl); on = λ _. rw (read, ne-eqb (b / 32) 2 o) q }
+      record { shortest = λ _. rw (read, is) (eq-eqb (b % 32) (b % 32) refl); on = λ _. rw (read, ne-eqb (b / 32) 2 (f .other)) q }
 
   -- where nothing is told, it does not go on
   pub stays : (p : ℕ) → Skips s p p

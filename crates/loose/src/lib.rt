@@ -4,7 +4,7 @@ ghost use mathlib.Core.Path.{_≡_};
 ghost use Prim.Native.Nat.{_+_, _≤_, _<_};
 ghost use lib.ListN.{length, getD};
 ghost use Rattle.loose.specs.Scan.{behindOf, behind, scanned};
-ghost use Rattle.loose.specs.Skip.{Skips, Half};
+ghost use Rattle.loose.specs.Skip.{Skips, Halved};
 
 // The position behind a head that ends at `next`, and behind a byte string's content.
 fn behind_of(s: &[u8], major: u8, n: u64, next: usize) -> usize
@@ -47,38 +47,12 @@ fn zeros(s: &[u8], from: usize, k: usize) -> usize
     k
 }
 
-// Half of the bytes that follow the first byte of a head, where these are two or more.
-fn half_of(info: u8) -> usize
-    requires { ⌜ (25 ≤ info) × (info < 28) ⌝ }
-    ensures { λ r. ⌜ Half info r ⌝ }
-{
-    if info == 25 {
-        return 1;
-    }
-    if info == 26 {
-        return 2;
-    }
-    4
-}
-
-// The position behind the head at a position, where it has two bytes or more behind its first, is not a byte string's, and is the shortest:
-// one of the first half of these bytes is not 0. Else that position.
-fn skip_wide(s: &[u8], at: usize) -> usize
-    requires { ⌜ at < length (now s) ⌝ }
+// The position behind the head at a position, where it is the shortest: one of the first half of the bytes behind its first is not 0. Else that
+// position.
+fn skip_half(s: &[u8], at: usize, half: usize) -> usize
+    requires { ⌜ (at < length (now s)) × Halved (now s) at half ⌝ }
     ensures { λ r. ⌜ Skips (now (s .entry)) at r ⌝ }
 {
-    let b = s[at];
-    let info = b % 32;
-    if b / 32 == 2 {
-        return at;
-    }
-    if info < 25 {
-        return at;
-    }
-    if 27 < info {
-        return at;
-    }
-    let half = half_of(info);
     let next = at + 1;
     if s.len() - next < 2 * half {
         return at;
@@ -87,6 +61,27 @@ fn skip_wide(s: &[u8], at: usize) -> usize
         return at;
     }
     next + 2 * half
+}
+
+// The same of a head that has two, four or eight bytes behind its first and is not a byte string's; that position of others.
+fn skip_wide(s: &[u8], at: usize) -> usize
+    requires { ⌜ at < length (now s) ⌝ }
+    ensures { λ r. ⌜ Skips (now (s .entry)) at r ⌝ }
+{
+    let b = s[at];
+    if b / 32 == 2 {
+        return at;
+    }
+    if b % 32 == 25 {
+        return skip_half(s, at, 1);
+    }
+    if b % 32 == 26 {
+        return skip_half(s, at, 2);
+    }
+    if b % 32 == 27 {
+        return skip_half(s, at, 4);
+    }
+    at
 }
 
 // The position behind the head at a position and behind a byte string's content, where one byte follows its first and it is the shortest, or

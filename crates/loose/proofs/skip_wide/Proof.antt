@@ -1,35 +1,55 @@
--- `loose::skip_wide` meets its contract: one of the first half of the bytes is not 0, or nothing is told.
+-- `loose::skip_wide` meets its contract, for each width.
 -- Assumes nothing.
-use Prim.Native.Nat.{ℕ, _<_}
+use Prim.Native.Nat.{ℕ, _*_, _/_, _%_, _^_, _≤_, _<_}
+use mathlib.Core.Path.{_≡_, refl, sym, _∙_}
 use mathlib.Core.List.{List}
 use native.Mathlib.Omega.{arith}
 use lib.ListN.{getD}
-use mathlib.Core.Path.{refl}
 use borrow.Author.Needs.{needs}
-use Rattle.loose.proofs.ScanLaws.{by-half, stays}
+use borrow.Author.Tests.{lt-ltb, le-ltb}
+use Rattle.cbor.specs.Cbor.{width, shortest}
+use Rattle.loose.specs.Skip.{Halved}
+use Rattle.loose.proofs.ScanLaws.{stays}
 use Rattle.loose.proofs.skip_wide.Statement.{statement}
 use Rattle.loose.proofs.skip_wide.Tie as tie
 
-half-of-requires : tie.Need-half-of-requires
-half-of-requires c κs = (c .before .if2 .left, omega (arith, c .if3 .left))
+-- a head of one of the three widths
+halved : (s : List ℕ) (at info half : ℕ) → (getD s at 0 / 32 ≡ 2 → ⊥) → getD s at 0 % 32 ≡ info → 24 ≤ info → info < 28 → width info ≡ 2 * half → half ≤ 4
+    → ((n : ℕ) → 256 ^ half ≤ n → n < 256 ^ (2 * half) → shortest n ≡ info) → Halved s at half
+halved s at info half o e low high twice most told = record {
+  other = o;
+  wide = rw e low;
+  known = rw e high;
+  twice = rw e twice;
+  most = most;
+  told = λ n a b. told n a b ∙ sym e;
+}
 
-zeros-requires : tie.Need-zeros-requires
-zeros-requires c κs = omega (arith, c .if4 .left, c .before .half-of .ensures .most)
+module _ (s : List ℕ) (at : ℕ) (o : getD s at 0 / 32 ≡ 2 → ⊥) where
+  two : getD s at 0 % 32 ≡ 25 → Halved s at 1
+  unfolding width shortest
+  two e = halved s at 25 1 o e (omega arith) (omega arith) refl (omega arith) (λ n a b. rw (le-ltb n 24 (omega arith), le-ltb n 256 (omega arith), lt-ltb n 65536 (omega arith)))
 
-module _ (c : tie.After-zeros) where
-  abbrev bytes : List ℕ
-  bytes = c .before .before .before .before .before .before .before .before .args .s .now
+  four : getD s at 0 % 32 ≡ 26 → Halved s at 2
+  unfolding width shortest
+  four e =
+      halved s at 26 2 o e (omega arith) (omega arith) refl (omega arith)
+      (λ n a b. rw (le-ltb n 24 (omega arith), le-ltb n 256 (omega arith), le-ltb n 65536 (omega arith), lt-ltb n 4294967296 (omega arith)))
 
-  small : (j : ℕ) → getD bytes j 0 < 256
-  small j = omega (arith, c .before .before .before .before .before .before .shared-slice-known2 .given j)
+  eight : getD s at 0 % 32 ≡ 27 → Halved s at 4
+  unfolding width shortest
+  eight e =
+      halved s at 27 4 o e (omega arith) (omega arith) refl (omega arith)
+      (λ n a b. rw (le-ltb n 24 (omega arith), le-ltb n 256 (omega arith), le-ltb n 65536 (omega arith), le-ltb n 4294967296 (omega arith)))
 
-returns-6 : tie.Need-returns-6
-returns-6 c =
-    let z = c .before in
-    let h = z .before .before in
-    let i = h .before in
-    by-half _ _ _ _ _ _ refl (i .before .if2 .left) (omega (arith, i .if3 .left)) (i .before .before .if1 .left) (h .half-of .ensures)
-    (omega (arith, z .before .if4 .left, h .half-of .ensures .most)) (small z) (omega (arith, c .if5 .left)) (z .zeros .ensures (omega (arith, c .if5 .left))) refl
+skip-half-requires : tie.Need-skip-half-requires
+skip-half-requires c κs = (c .before .before .before .before .pre, two _ _ (c .before .if1 .left) (c .if2 .taken))
+
+skip-half-requires-2 : tie.Need-skip-half-requires-2
+skip-half-requires-2 c κs = (c .before .before .before .before .before .pre, four _ _ (c .before .before .if1 .left) (c .if3 .taken))
+
+skip-half-requires-3 : tie.Need-skip-half-requires-3
+skip-half-requires-3 c κs = (c .before .before .before .before .before .before .pre, eight _ _ (c .before .before .before .if1 .left) (c .if4 .taken))
 
 pub skip-wide-spec : {M : Type 1} → statement M
 skip-wide-spec =
@@ -37,15 +57,10 @@ skip-wide-spec =
     (tie.spec
     (λ c. search needs)
     (λ c. stays _ _)
-    (λ c. stays _ _)
-    (λ c. stays _ _)
-    half-of-requires
-    (λ c. search needs)
-    (λ c. search needs)
-    (λ c. omega (arith, c .half-of .ensures .most))
-    (λ c. stays _ _)
-    zeros-requires
-    (λ c. stays _ _)
-    (λ c. omega (arith, c .before .before .before .half-of .ensures .most))
-    (λ c. omega (arith, c .before .before .before .half-of .ensures .most, c .before .before .if4 .left))
-    returns-6)
+    skip-half-requires
+    (λ c. c .skip-half .ensures)
+    skip-half-requires-2
+    (λ c. c .skip-half2 .ensures)
+    skip-half-requires-3
+    (λ c. c .skip-half3 .ensures)
+    (λ c. stays _ _))
