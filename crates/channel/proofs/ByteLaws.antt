@@ -15,9 +15,9 @@ use Rattle.session.specs.Session.{Step, Reading, read}
 use Rattle.session.proofs.Laws.{read-short}
 use Rattle.session.proofs.Pieces.{read-one}
 use Rattle.channel.specs.declared.Channel.{Channel}
-use Rattle.channel.specs.Receiver.{Receiver, slotAt, placeOf, lowestFree, target, commandLength, command, placed, streamOpen, viewOf, refused, refusedWork, commandSlot, slotsAfter, streamsAfter, accepted, judge, put, isWhole, tooLong, counted}
+use Rattle.channel.specs.Receiver.{Receiver, withPending, slotAt, placeOf, lowestFree, target, commandLength, command, placed, streamOpen, viewOf, refused, refusedWork, commandSlot, slotsAfter, streamsAfter, accepted, judge, put, isWhole, tooLong, counted}
 use Rattle.channel.specs.Channel.{channel}
-use Rattle.channel.specs.Steps.{receiver, stepped, pendingSet}
+use Rattle.channel.specs.Steps.{receiver, stepped}
 use Rattle.channel.proofs.ReceiverLaws.{length-later, take-live}
 use Rattle.channel.proofs.FrameLaws.{judged-at, counted-whole, counted-open}
 
@@ -70,13 +70,13 @@ module _ (s : Channel) (w : List ℕ) (b : ℕ) where
     byte-short room e l = read-short channel r room b [] (rw (closing e, lt-ltb room longestRecord l))
 
     -- the count of pending bytes plays no part in what the rules say
-    unpended : judged-at (put r b) ≡ judge (pendingSet s 0) (frameOf filled) filled
+    unpended : judged-at (put r b) ≡ judge (withPending s 0) (frameOf filled) filled
     unfolding judged-at put judge viewOf accepted refused refusedWork placed command commandLength target slotAt placeOf lowestFree streamOpen slotsAfter streamsAfter commandSlot
     unpended = refl
 
     pub byte-whole : (room : ℕ) → n ≡ 7 + lengthOf w → lengthOf w ≤ maxPayload → longestRecord ≤ room
-        → read channel r room (b ∷ []) ≡ stepped (judge (pendingSet s 0) (frameOf filled) filled)
-    byte-whole room e l k = read-as room (judge (pendingSet s 0) (frameOf filled) filled) (goes room k) (counted-whole (put r b) (fits (λ _. l)) (closing e) ∙ unpended)
+        → read channel r room (b ∷ []) ≡ stepped (judge (withPending s 0) (frameOf filled) filled)
+    byte-whole room e l k = read-as room (judge (withPending s 0) (frameOf filled) filled) (goes room k) (counted-whole (put r b) (fits (λ _. l)) (closing e) ∙ unpended)
 
     long : n ≡ 7 → maxPayload < lengthOf w → counted (put r b) ≡ refused 11 s filled
     unfolding counted tooLong put refused
@@ -93,7 +93,7 @@ module _ (s : Channel) (w : List ℕ) (b : ℕ) where
     begun number pending = record {
       number = number;
       taken = 1;
-      next = receiver (pendingSet s pending) filled;
+      next = receiver (withPending s pending) filled;
       records = [];
     }
 

@@ -5,14 +5,14 @@ use mathlib.Core.Path.{_≡_, refl, _∙_}
 use mathlib.Core.Bool.{Bool, true, false}
 use native.Mathlib.Omega.{arith}
 use lib.Dec.{eqb}
-use lib.ListN.{getD, set}
+use lib.ListN.{getD}
 use borrow.Author.Tests.{eq-eqb, ne-eqb}
 use Rattle.requests.specs.declared.Phase.the-variants.{Running}
 use Rattle.requests.specs.Phases.{code, isPhase, freeSlot}
 use Rattle.requests.specs.Slots.{inPhase}
 use Rattle.session.specs.Session.{Reply}
 use Rattle.channel.specs.declared.Channel.{Channel}
-use Rattle.channel.specs.Receiver.{slotAt, placeOf, slotOf, freed, finishState}
+use Rattle.channel.specs.Receiver.{withSlot, slotAt, placeOf, slotOf, freed, finishState}
 
 module _ (s : Channel) (id : ℕ) where
   by-dead : (d : ℕ) (z : Reply Channel) → (d ≡ 0 → ⊥) → _≡_ {A = Reply Channel} (elim d as (λ _. Reply Channel) [ suc n ↦ record { next = s; number = suc n } | zero ↦ z ]) (record { next = s; number = d })
@@ -44,7 +44,7 @@ module _ (s : Channel) (id : ℕ) where
     unfolding slotAt isPhase code
     running = rw (← e)
 
-    pub frees : s .dead ≡ 0 → code (getD (s .slots) i freeSlot .phase) ≡ 3 → finishState s id ≡ record { next = record { dead = s .dead; pending = s .pending; slots = set (s .slots) i freeSlot; streams = s .streams }; number = 0 }
+    pub frees : s .dead ≡ 0 → code (getD (s .slots) i freeSlot .phase) ≡ 3 → finishState s id ≡ record { next = withSlot s i freeSlot; number = 0 }
     unfolding freed
     frees d h = finish-runs d (running ∙ eq-eqb _ 3 h) ∙ rw e
 

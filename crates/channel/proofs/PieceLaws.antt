@@ -20,9 +20,9 @@ use Rattle.session.specs.Session.{Feed, Reading, read}
 use Rattle.session.proofs.Laws.{behind}
 use Rattle.channel.specs.declared.Channel.{Channel}
 use Rattle.channel.specs.declared.Fed.{Fed}
-use Rattle.channel.specs.Receiver.{Receiver, refused, judge}
+use Rattle.channel.specs.Receiver.{Receiver, withDead, withPending, refused, judge}
 use Rattle.channel.specs.Channel.{channel, fedWith}
-use Rattle.channel.specs.Steps.{receiver, putFrom, judgedInto, quietCount, Held, Part, part, byteOf, later, pieceOf, pendingSet, endedWith}
+use Rattle.channel.specs.Steps.{receiver, putFrom, judgedInto, quietCount, Held, Part, part, byteOf, later, pieceOf, endedWith}
 use Rattle.channel.proofs.ReceiverLaws.{length-later}
 use Rattle.channel.proofs.QuietLaws.{Quiet, Judged, eighth, last, judged-late, read-put, quiet-few, quiet-can, quiet-done}
 use Rattle.channel.proofs.ByteLaws.{byte-short, byte-whole, byte-long, byte-open}
@@ -32,12 +32,12 @@ use Rattle.channel.proofs.ByteLaws.{byte-short, byte-whole, byte-long, 
 -- a whole frame is judged
 abbrev judgedPart : Channel → Part → Reading Receiver
 judgedPart s p =
-    let t = judge (pendingSet s (p .pending)) (frameOf (p .work)) (p .work) in
+    let t = judge (withPending s (p .pending)) (frameOf (p .work)) (p .work) in
     record { number = t .next .state .dead; taken = p .taken; next = t .next; records = t .adds }
 
 -- none is
 abbrev plainPart : Channel → Part → Reading Receiver
-plainPart s p = record { number = p .number; taken = p .taken; next = receiver (endedWith (p .number) (pendingSet s (p .pending))) (p .work); records = [] }
+plainPart s p = record { number = p .number; taken = p .taken; next = receiver (endedWith (p .number) (withPending s (p .pending))) (p .work); records = [] }
 
 abbrev readingOf : Channel → Part → Reading Receiver
 readingOf s p = cond (eqb (p .number) 1) (judgedPart s p) (plainPart s p)
@@ -55,10 +55,10 @@ all-taken s g p k = ap (λ (x : Reading Receiver). x .taken) (k .reads) ∙ go (
     go false = refl
 
 -- behind bytes that were put
-later-comes : (s : Channel) (n q : ℕ) (g : Reading Receiver) (p : Part) → Comes (pendingSet s n) g p → Comes s (behind q [] g) (later q p)
+later-comes : (s : Channel) (n q : ℕ) (g : Reading Receiver) (p : Part) → Comes (withPending s n) g p → Comes s (behind q [] g) (later q p)
 later-comes s n q g p k = record { reads = ap (behind q []) (k .reads) ∙ go (eqb (p .number) 1); frame = k .frame }
   where
-    go : (t : Bool) → behind q [] (cond t (judgedPart (pendingSet s n) p) (plainPart (pendingSet s n) p)) ≡ cond t (judgedPart s (later q p)) (plainPart s (later q p))
+    go : (t : Bool) → behind q [] (cond t (judgedPart (withPending s n) p) (plainPart (withPending s n) p)) ≡ cond t (judgedPart s (later q p)) (plainPart s (later q p))
     go true = refl
     go false = refl
 
@@ -119,7 +119,7 @@ module _ (s : Channel) (w rest : List ℕ) (room : ℕ) (live : s .dead ≡ 0) (
   stored = write w (s .pending) (take q rest)
 
   abbrev ahead : Channel
-  ahead = pendingSet s (s .pending + q)
+  ahead = withPending s (s .pending + q)
 
   abbrev whole : Reading Receiver
   whole = read channel r room (take (suc q) rest)
@@ -174,11 +174,8 @@ still number taken written s work out z = rw z
 own-number : (s : Channel) → endedWith (s .dead) s ≡ s
 own-number s = go (eqb (s .dead) 11) refl
   where
-    with : ℕ → Channel
-    with n = record { dead = n; pending = s .pending; slots = s .slots; streams = s .streams }
-
-    go : (t : Bool) → eqb (s .dead) 11 ≡ t → with (cond t 11 (s .dead)) ≡ s
-    go true e = ap with (sym (eqb-true (s .dead) 11 e))
+    go : (t : Bool) → eqb (s .dead) 11 ≡ t → withDead s (cond t 11 (s .dead)) ≡ s
+    go true e = ap (withDead s) (sym (eqb-true (s .dead) 11 e))
     go false e = refl
 
 -- an answer behind the counts so far
@@ -190,13 +187,13 @@ module _ (s : Channel) (g : Reading Receiver) (p : Part) (k : Comes s g p) (out 
   gives x = further taken written (putFrom out written x)
 
   -- no frame is judged
-  pub turn-plain : (p .number ≡ 1 → ⊥) → answered (p .number) (taken + p .taken) written (pendingSet s (p .pending)) (p .work) out ≡ gives g
+  pub turn-plain : (p .number ≡ 1 → ⊥) → answered (p .number) (taken + p .taken) written (withPending s (p .pending)) (p .work) out ≡ gives g
   turn-plain h =
       let e : readingOf s p ≡ plainPart s p = rw (ne-eqb (p .number) 1 h) in
       sym (ap gives (k .reads ∙ e) ∙ rw (write-none, add-zero))
 
   -- one is
-  pub turn-judged : (a : Fed) (work new : List ℕ) → p .number ≡ 1 → fedWith a work new ≡ judgedInto out written (pendingSet s (p .pending)) (p .work)
+  pub turn-judged : (a : Fed) (work new : List ℕ) → p .number ≡ 1 → fedWith a work new ≡ judgedInto out written (withPending s (p .pending)) (p .work)
       → answered (a .number) (taken + p .taken) (written + a .written) (a .channel) work new ≡ gives g
   turn-judged a work new h a-is =
       let e : readingOf s p ≡ judgedPart s p = rw (eq-eqb (p .number) 1 h) in

@@ -16,9 +16,9 @@ use Rattle.frame.specs.Header.{lengthOf}
 use Rattle.session.specs.Session.{Reading, read, Step}
 use Rattle.session.proofs.Laws.{behind, behind-none}
 use Rattle.session.proofs.Pieces.{read-quiet}
-use Rattle.channel.specs.Receiver.{Receiver, put, isWhole, tooLong, takeByte}
+use Rattle.channel.specs.Receiver.{Receiver, withPending, put, isWhole, tooLong, takeByte}
 use Rattle.channel.specs.Channel.{channel}
-use Rattle.channel.specs.Steps.{receiver, pendingSet, quietCount, Held}
+use Rattle.channel.specs.Steps.{receiver, quietCount, Held}
 use Rattle.channel.proofs.ReceiverLaws.{length-later, take-live}
 use Rattle.channel.proofs.FrameLaws.{not-long, counted-open}
 
@@ -38,7 +38,7 @@ judged-late p w (last e l) = omega arith
 
 -- with these bytes put
 abbrev advanced : Receiver → List ℕ → Receiver
-advanced r bs = receiver (pendingSet (r .state) (r .state .pending + length bs)) (write (r .work) (r .state .pending) bs)
+advanced r bs = receiver (withPending (r .state) (r .state .pending + length bs)) (write (r .work) (r .state .pending) bs)
 
 -- from the third byte on the length stands
 length-put : (bs w : List ℕ) (n : ℕ) → 3 ≤ n → lengthOf (write w n bs) ≡ lengthOf w

@@ -20,11 +20,28 @@ pub record Receiver : Type 0 where
   pub state : Channel
   pub work : List ℕ
 
--- ---- slots
+-- ---- the state: a fresh one, and one with a part replaced
 
 -- live, nothing pending, all slots free, all streams closed
 unfoldable pub freshState : Channel
 freshState = record { dead = 0; pending = 0; slots = replicate slotCount freeSlot; streams = replicate streamCount false }
+
+abbrev pub withDead : Channel → ℕ → Channel
+withDead s n = record { dead = n; pending = s .pending; slots = s .slots; streams = s .streams }
+
+abbrev pub withPending : Channel → ℕ → Channel
+withPending s n = record { dead = s .dead; pending = n; slots = s .slots; streams = s .streams }
+
+abbrev pub withSlots : Channel → List Slot → Channel
+withSlots s xs = record { dead = s .dead; pending = s .pending; slots = xs; streams = s .streams }
+
+abbrev pub withStreams : Channel → List Bool → Channel
+withStreams s bs = record { dead = s .dead; pending = s .pending; slots = s .slots; streams = bs }
+
+abbrev pub withSlot : Channel → ℕ → Slot → Channel
+withSlot s i x = withSlots s (set (s .slots) i x)
+
+-- ---- slots
 
 unfoldable pub slotAt : Channel → ℕ → Slot
 slotAt s i = getD (s .slots) i freeSlot
@@ -74,10 +91,7 @@ viewOf s f w = record {
 -- ---- what a frame does
 
 unfoldable pub refused : ℕ → Channel → List ℕ → Step Receiver
-refused n s w = record {
-  next = record { state = record { dead = n; pending = 0; slots = s .slots; streams = s .streams }; work = w };
-  adds = [];
-}
+refused n s w = record { next = record { state = withDead (withPending s 0) n; work = w }; adds = [] }
 
 -- the work area that a refusal leaves
 unfoldable pub refusedWork : ℕ → Channel → Frame → List ℕ → List ℕ
@@ -98,7 +112,7 @@ streamsAfter s f = set (s .streams) (f .stream / 2) (not (ends f))
 unfoldable pub accepted : Channel → Frame → List ℕ → Step Receiver
 accepted s f w = record {
   next = record {
-    state = record { dead = s .dead; pending = 0; slots = slotsAfter s f; streams = streamsAfter s f };
+    state = withStreams (withSlots (withPending s 0) (slotsAfter s f)) (streamsAfter s f);
     work = cond (isCommand f) (placed s f w) w;
   };
   adds = recordWith f (command s f w);
@@ -111,12 +125,7 @@ judge s f w = elim (firstBroken rules f (viewOf s f w)) [ zero ↦ accepted s f 
 
 -- the byte goes to the place that the pending count names, and the count grows by one
 unfoldable pub put : Receiver → ℕ → Receiver
-put r b =
-    let s = r .state in
-    record {
-      state = record { dead = s .dead; pending = suc (s .pending); slots = s .slots; streams = s .streams };
-      work = set (r .work) (s .pending) b;
-    }
+put r b = record { state = withPending (r .state) (suc (r .state .pending)); work = set (r .work) (r .state .pending) b }
 
 -- the frame's last byte has been put
 unfoldable pub isWhole : Receiver → Bool
@@ -141,7 +150,7 @@ takeByte r b = elim (r .state .dead) [ zero ↦ counted (put r b) | suc n ↦ re
 -- ---- finish
 
 unfoldable pub freed : Channel → ℕ → Channel
-freed s id = record { dead = s .dead; pending = s .pending; slots = set (s .slots) (placeOf s id) freeSlot; streams = s .streams }
+freed s id = withSlot s (placeOf s id) freeSlot
 
 -- on the state alone: finish has no work area
 unfoldable pub finishState : Channel → ℕ → Reply Channel

@@ -19,7 +19,7 @@ use Rattle.session.specs.Session.{Step, Reading, Feed}
 use Rattle.channel.specs.declared.Channel.{Channel}
 use Rattle.channel.specs.declared.Fed.{Fed}
 use Rattle.channel.specs.declared.feed.Piece.{Piece}
-use Rattle.channel.specs.Receiver.{Receiver, streamOpen, judge}
+use Rattle.channel.specs.Receiver.{Receiver, withDead, withPending, withStreams, withSlot, streamOpen, judge}
 
 abbrev pub receiver : Channel → List ℕ → Receiver
 receiver s w = record { state = s; work = w }
@@ -36,26 +36,17 @@ stepped t = record { number = t .next .state .dead; taken = 1; next = t .next; r
 abbrev pub metOf : Channel → Header → Met
 metOf s h = metIn (s .slots) (streamOpen s (framed h [])) h
 
--- a state with another slot at a place
-abbrev pub slotSet : Channel → ℕ → Slot → Channel
-slotSet s i x = record { dead = s .dead; pending = s .pending; slots = set (s .slots) i x; streams = s .streams }
-
 -- an answer with a state
 abbrev pub answerWith : Channel → ℕ → ℕ → ℕ → Fed
 answerWith s number taken written = record { number = number; taken = taken; written = written; channel = s }
 
 -- a byte that refuses its frame
 abbrev pub refusedWith : Channel → ℕ → Fed
-refusedWith s n = record { number = n; taken = 1; written = 0; channel = record { dead = n; pending = 0; slots = s .slots; streams = s .streams } }
+refusedWith s n = answerWith (withDead (withPending s 0) n) n 1 0
 
 -- a byte whose frame is accepted, with the slot that it leaves at a place and the length of its record
 abbrev pub acceptedWith : Channel → Header → ℕ → Slot → ℕ → Fed
-acceptedWith s h i x n = record {
-  number = 0;
-  taken = 1;
-  written = n;
-  channel = record { dead = s .dead; pending = 0; slots = set (s .slots) i x; streams = set (s .streams) (h .stream / 2) (not (ends (framed h []))) };
-}
+acceptedWith s h i x n = answerWith (withStreams (withSlot (withPending s 0) i x) (set (s .streams) (h .stream / 2) (not (ends (framed h []))))) 0 1 n
 
 -- ---- a whole frame in the work area
 
@@ -117,10 +108,6 @@ pieceOf pending w rest room =
     let put = write w pending (take q rest) in
     cond (eqb q (length rest)) (part 0 q (pending + q) put) (later q (byteOf (pending + q) put (getD rest q 0) room))
 
--- a state with another count of pending bytes
-abbrev pub pendingSet : Channel → ℕ → Channel
-pendingSet s n = record { dead = s .dead; pending = n; slots = s .slots; streams = s .streams }
-
 -- the state at a call's end: a frame refused for its length makes it dead
 abbrev pub endedWith : ℕ → Channel → Channel
-endedWith number s = record { dead = cond (eqb number 11) 11 (s .dead); pending = s .pending; slots = s .slots; streams = s .streams }
+endedWith number s = withDead s (cond (eqb number 11) 11 (s .dead))

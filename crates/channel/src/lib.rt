@@ -11,9 +11,9 @@ ghost use lib.ListN.{length, take, drop};
 ghost use Rattle.buffer.specs.Bytes.{write};
 ghost use Rattle.frame.specs.Limits.{maxCommand, slotCount, workArea, partStart};
 ghost use Rattle.rules.specs.Rules.{checkOf, commandByte};
-ghost use Rattle.channel.specs.Receiver.{freshState};
+ghost use Rattle.channel.specs.Receiver.{freshState, withSlot};
 ghost use Rattle.channel.specs.Channel.{deadFits, plainShape, finishOf, finished, fedWith};
-ghost use Rattle.channel.specs.Steps.{metOf, slotSet, answerWith, refusedWith, acceptedWith, judgedInto, HasFrame, Passed};
+ghost use Rattle.channel.specs.Steps.{metOf, answerWith, refusedWith, acceptedWith, judgedInto, HasFrame, Passed};
 
 // The dead number, 0 while live; how many bytes of the frame under way are in the work area; the slots; and the streams, true for open:
 // stream 2k + 1 at index k.
@@ -83,7 +83,7 @@ impl Channel {
 
     // The state with another slot at an index; as it is where there is none.
     fn with_slot(self, i: usize, x: Slot) -> Channel
-        ensures { λ r. ⌜ r ≡ slotSet self i x ⌝ }
+        ensures { λ r. ⌜ r ≡ withSlot self i x ⌝ }
     {
         let slots = self.slots;
         let changed = requests::with_slot(slots, i, x);

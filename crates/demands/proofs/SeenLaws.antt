@@ -8,7 +8,7 @@ use native.Mathlib.Omega.{arith}
 use lib.ListN.{length, take, drop, getD, set, List·getD-eq-default}
 use lib.Seq.{drop-set-lt}
 use lib.Dec.{leb, ltb, eqb}
-use borrow.Author.Tests.{eqb-true, eq-eqb, leb-true, ltb-true, ltb-false}
+use borrow.Author.Tests.{eqb-true, eq-eqb, leb-true, le-leb, ltb-true, ltb-false}
 use Rattle.requests.specs.declared.Phase.{Phase}
 use Rattle.requests.specs.declared.Phase.the-variants.{Free, Collecting, Waiting, Running}
 use Rattle.requests.specs.declared.Slot.{Slot}
@@ -17,10 +17,10 @@ use Rattle.frame.specs.Limits.{maxCommand, slotCount, frameArea, workArea, part
 use Rattle.session.specs.Session.{Reply}
 use Rattle.frame.specs.Frame.{Frame, isEven, isType, isNew, isMore, dataFollows, isLast}
 use Rattle.demands.specs.Demands.{freshOn}
-use Rattle.channel.specs.Receiver.{Receiver, freshState, slotAt, placeOf, slotOf, lowestFree, target, commandLength, placed, command, commandSlot, slotsAfter, streamsAfter, accepted, put, freed, finishState, finish, viewOf}
+use Rattle.channel.specs.Receiver.{Receiver, freshState, withPending, withSlots, withStreams, slotAt, placeOf, slotOf, lowestFree, target, commandLength, placed, command, commandSlot, slotsAfter, streamsAfter, accepted, put, freed, finishState, finish, viewOf}
 use Rattle.requests.specs.Slots.{inPhase, isId, firstSlot, slotFits, apart, slotsFit, enter, dataSlot}
 use Rattle.requests.specs.Phases.{freeSlot, isPhase, code}
-use Rattle.channel.specs.Channel.{deadFits, heldShape}
+use Rattle.channel.specs.Channel.{deadFits, plainShape, heldShape, shape}
 use Rattle.demands.specs.Request.{ending, itemOf, Request, idle, moved}
 use Rattle.rules.specs.Rules.{firstBroken, isCommand, rules}
 use Rattle.rules.proofs.Bools.{and-r, and-i, and-no, no-not, no-is, fails, clash, by-cond}
@@ -28,7 +28,7 @@ use Rattle.channel.proofs.SlotLaws.{inside, each-fits, same-id, of-id, not-free
 use Rattle.rules.proofs.RuleLaws.{passed}
 use Rattle.buffer.proofs.WriteLaws.{own-part, other-part}
 use Rattle.demands.proofs.PlaceLaws.{hit, missed, placed-at}
-use Rattle.channel.proofs.ReceiverLaws.{Ok, Room, room, waits, used}
+use Rattle.channel.proofs.ReceiverLaws.{Ok, ok-start, Room, room, waits, used}
 
 -- the receiver seen from a request
 unfoldable pub seen : ℕ → Receiver → Request
@@ -262,7 +262,7 @@ module _ (s : Channel) (f : Frame) (w : List ℕ) (wide : workArea ≤ length w)
       own-part w (partStart (target s f)) (slotAt s (target s f) .length) (f .payload) (omega arith) ∙ ap (λ (l : List ℕ). l ++ f .payload) (held-bytes s f w fit (fresh-id c))
 
   with-slots : List Slot → List ℕ → Receiver
-  with-slots l v = record { state = record { dead = s .dead; pending = 0; slots = l; streams = streamsAfter s f }; work = v }
+  with-slots l v = record { state = withStreams (withSlots (withPending s 0) l) (streamsAfter s f); work = v }
 
   after-command : isCommand f ≡ true → accepted s f w .next ≡ with-slots (set (s .slots) (target s f) (commandSlot s f)) (placed s f w)
   unfolding accepted slotsAfter with-slots
@@ -390,8 +390,8 @@ finish-own id r k t (ended h) =
 -- ---- the fresh state
 
 pub fresh-ok : (w : List ℕ) → workArea ≤ length w → Ok (freshOn w)
-unfolding freshState slotsFit slotFits apart isPhase code deadFits heldShape
-fresh-ok w l = record { work = l; count = refl; pending = omega arith; slots = refl; dead = refl; held = refl }
+unfolding freshState shape plainShape slotsFit slotFits apart isPhase code deadFits heldShape
+fresh-ok w l = ok-start (freshOn w) (le-leb workArea (length w) l) refl refl
 
 pub fresh-idle : (id : ℕ) (w : List ℕ) → seen id (freshOn w) ≡ idle
 unfolding seen idle freshState slotAt placeOf firstSlot isId isPhase code

@@ -6,9 +6,10 @@ use mathlib.Core.List.{List, [], _∷_, map}
 use native.Mathlib.Omega.{arith}
 use lib.ListN.{length, take, drop, replicate, length-replicate}
 use lib.Seq.{take-append-seam}
-use lib.Dec.{ltb}
+use lib.Dec.{leb, ltb}
 use lib.IntN.{pos}
-use Rattle.frame.specs.Limits.{longestRecord}
+use borrow.Author.Tests.{le-leb}
+use Rattle.frame.specs.Limits.{longestRecord, workArea}
 use Rattle.session.specs.Session
 use Rattle.session.specs.Session.{Feed, feed, read, unchanged, wrote}
 use Rattle.buffer.specs.Bytes
@@ -34,7 +35,7 @@ use Rattle.channel.specs.Channel.{channel}
 use Rattle.demands.specs.Traces
 use Rattle.demands.specs.Traces.{Start, fresh, waiting, startOf, Line, bytes, ends, callOf, Result, afterFeed, afterFinish, ran, Trace, calls, looks, resultOf, table, TableHolds}
 use Rattle.session.proofs.Laws.{feed-open, read-keeps, own-is}
-use Rattle.channel.proofs.ReceiverLaws.{Ok, finish-ok, keeps}
+use Rattle.channel.proofs.ReceiverLaws.{Ok, ok-start, finish-ok, keeps}
 
 -- The same without the checks of rules 1, 2 and 3 and without the output, which cost the length of a work area and of an output at each
 -- call to compute: rule 2 and 3 never apply in a session, and of the output a reading needs its length.
@@ -97,10 +98,13 @@ quick-is [] r k = refl
 quick-is (bytes input n ∷ ls) r k = one-feed ls r input n k (λ q h. quick-is ls q h)
 quick-is (ends id ∷ ls) r k = rw (own-is channel keeps r id k) (ap (afterFinish (Receiver.finish r id .number)) (quick-is ls (Receiver.finish r id .next) (finish-ok r id k)))
 
+wide : leb workArea (length {A = ℕ} (replicate workArea 0)) ≡ true
+wide = le-leb workArea (length {A = ℕ} (replicate workArea 0)) (rw length-replicate (omega arith))
+
 start-ok : (s : Start) → Ok (startOf s)
-unfolding startOf Receiver.freshState Slots.slotsFit Slots.slotFits Slots.apart Slots.idIn Slots.isId Phases.isPhase Phases.code Channel.deadFits Channel.heldShape Frame.isEven
-start-ok fresh = record { work = rw length-replicate (omega arith); count = refl; pending = omega arith; slots = refl; dead = refl; held = refl }
-start-ok waiting = record { work = rw length-replicate (omega arith); count = refl; pending = omega arith; slots = refl; dead = refl; held = refl }
+unfolding startOf Receiver.freshState Slots.slotsFit Slots.slotFits Slots.apart Slots.idIn Slots.isId Phases.isPhase Phases.code Channel.shape Channel.plainShape Channel.deadFits Channel.heldShape Frame.isEven
+start-ok fresh = ok-start (startOf fresh) wide refl refl
+start-ok waiting = ok-start (startOf waiting) wide refl refl
 
 unfoldable fast : Trace → Result
 fast (calls s ls) = quick (startOf s) ls

@@ -12,8 +12,7 @@ use Rattle.frame.specs.Limits.{longestRecord, workArea}
 use Rattle.session.specs.Session.{Call, feeds, owns, feed, own}
 use Rattle.rules.specs.Rules.{checkOf}
 use Rattle.command.specs.Lookup.{numberNumber, numberValue, integerAt}
-use Rattle.requests.specs.Phases.{freeSlot}
-use Rattle.channel.specs.Receiver.{Receiver, freshState}
+use Rattle.channel.specs.Receiver.{Receiver, freshState, withStreams, withSlot}
 use Rattle.channel.specs.Channel.{channel}
 
 abbrev pub t1 : List ℕ
@@ -26,12 +25,7 @@ pub data Start : Type 0 where
 unfoldable pub startOf : Start → Receiver
 startOf fresh = record { state = freshState; work = replicate workArea 0 }
 startOf waiting = record {
-  state = record {
-    dead = 0;
-    pending = 0;
-    slots = record { id = 1; phase = Waiting; databit = true; length = 0 } ∷ replicate 7 freeSlot;
-    streams = true ∷ replicate 127 false;
-  };
+  state = withStreams (withSlot freshState 0 (record { id = 1; phase = Waiting; databit = true; length = 0 })) (true ∷ replicate 127 false);
   work = replicate workArea 0;
 }
 

@@ -31,8 +31,7 @@ use Rattle.demands.proofs.Demand3.{ok, own-finish, demand3}
 use Rattle.demands.proofs.SeenLaws.{fresh-ok, short-slot}
 use Rattle.demands.proofs.CutLaws.{small-request}
 use Rattle.fields.specs.Laws.{AreBytes, AllFit}
-use Rattle.layout.specs.State.{encode}
-use Rattle.layout.specs.Laws.{SlotFits, StateFits}
+use Rattle.layout.specs.State.{SlotFits, StateFits, encode}
 use Rattle.hgrpc.specs.Calls.{Kept, kept, Answer, fedAnswer, replied, feedAnswer, finishAnswer}
 use Rattle.hgrpc.specs.Laws.{lent, calls, inBytes, Starts, AllSessions, FreshStarts}
 use Rattle.fields.proofs.FieldLaws.{bytes-drop}

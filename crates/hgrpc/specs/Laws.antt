@@ -13,9 +13,8 @@ use Rattle.channel.specs.Receiver.{Receiver}
 use Rattle.channel.specs.Channel.{shape, channel}
 use Rattle.command.specs.Lookup.{nameOf, argumentAt, partAt}
 use Rattle.demands.specs.Demands.{Sound, Fed, freshOn}
-use Rattle.layout.specs.State.{encode, decode}
+use Rattle.layout.specs.State.{StateFits, encode, decode}
 use Rattle.fields.specs.Laws.{AreBytes}
-use Rattle.layout.specs.Laws.{StateFits}
 use Rattle.hgrpc.specs.Calls.{kept, answer, feedAnswer, finishAnswer, nameAnswer, argumentAnswer}
 
 -- ---- refusals: no count, and every lent byte as it was

@@ -18,10 +18,10 @@ use Rattle.requests.specs.Phases.{code}
 use Rattle.channel.specs.declared.Channel.{Channel}
 use Rattle.buffer.specs.Bytes.{write}
 use Rattle.buffer.proofs.WriteLaws.{set-write}
-use Rattle.fields.specs.Fields.{number, flag, both, many, getAll, goodAll, putAll}
+use Rattle.fields.specs.Fields.{Field, number, flag, both, many, getAll, goodAll, putAll}
 use Rattle.fields.proofs.Loops.{getAll-at, putAll-length, PutTo, put-more}
 use Rattle.fields.proofs.Places.{and-true, both-get, both-good, put-behind, byte-get, write-whole}
-use Rattle.layout.specs.State.{phaseOf, phase, phaseCount, slot, channel, pendingAt, slotsAt, streamsAt, stateLength, encode, isState, stateOf}
+use Rattle.layout.specs.State.{phaseOf, phase, phaseCount, slot, ofParts, channel, pendingAt, slotsAt, streamsAt, stateLength, encode, isState, stateOf}
 
 -- ---- a phase
 
@@ -87,26 +87,36 @@ stream-put b now l i h e =
     let k : streamsAt + i ≡ streamsAt + 1 * i = omega arith in
     rw (set-write now (streamsAt + i) (boolByte (getD l i false)), k) (put-more flag b streamsAt l now false i h refl e)
 
--- ---- a state: its four parts behind one another
+-- ---- a state: its parts behind one another
+
+-- the fields from each part on
+abbrev fromStreams : Field (List Bool)
+fromStreams = many flag streamCount
+
+abbrev fromSlots : Field (List Slot × List Bool)
+fromSlots = both (many slot slotCount) fromStreams
+
+abbrev fromPending : Field (ℕ × (List Slot × List Bool))
+fromPending = both (number 2) fromSlots
 
 module _ (b : List ℕ) where
   pub state-good : channel .good b ≡ (goodAll slot slotCount (drop slotsAt b) && goodAll flag streamCount (drop streamsAt b))
   state-good =
-      both-good (number 1) (both (number 2) (both (many slot slotCount) (many flag streamCount))) b 0 pendingAt refl
-      ∙ both-good (number 2) (both (many slot slotCount) (many flag streamCount)) b pendingAt slotsAt refl
-      ∙ both-good (many slot slotCount) (many flag streamCount) b slotsAt streamsAt refl
+      both-good (number 1) fromPending b 0 pendingAt refl
+      ∙ both-good (number 2) fromSlots b pendingAt slotsAt refl
+      ∙ both-good (many slot slotCount) fromStreams b slotsAt streamsAt refl
 
   pub state-get : stateOf b
       ≡ record { dead = getD b 0 0; pending = number 2 .get (drop pendingAt b); slots = getAll slot slotCount (drop slotsAt b); streams = getAll flag streamCount (drop streamsAt b) }
   unfolding stateOf
   state-get =
-      let made : ℕ × (ℕ × (List Slot × List Bool)) → Channel = λ t. record { dead = t .0; pending = t .1 .0; slots = t .1 .1 .0; streams = t .1 .1 .1 } in
       let d : ℕ = number 1 .get b in
       let p : ℕ = number 2 .get (drop pendingAt b) in
-      ap made (both-get (number 1) (both (number 2) (both (many slot slotCount) (many flag streamCount))) b 0 pendingAt refl)
-      ∙ ap (λ (t : ℕ × (List Slot × List Bool)). made (d, t)) (both-get (number 2) (both (many slot slotCount) (many flag streamCount)) b pendingAt slotsAt refl)
-      ∙ ap (λ (t : List Slot × List Bool). made (d, (p, t))) (both-get (many slot slotCount) (many flag streamCount) b slotsAt streamsAt refl)
-      ∙ ap (λ (n : ℕ). made (n, (p, (getAll slot slotCount (drop slotsAt b), getAll flag streamCount (drop streamsAt b))))) (add-zero (getD b 0 0))
+      let slots : List Slot = getAll slot slotCount (drop slotsAt b) in
+      ap ofParts (both-get (number 1) fromPending b 0 pendingAt refl)
+      ∙ ap (λ t. ofParts (d, t)) (both-get (number 2) fromSlots b pendingAt slotsAt refl)
+      ∙ ap (λ t. ofParts (d, (p, t))) (both-get (many slot slotCount) fromStreams b slotsAt streamsAt refl)
+      ∙ ap (λ n. ofParts (n, (p, (slots, getAll flag streamCount (drop streamsAt b))))) (add-zero (getD b 0 0))
 
   pub state-made : (n : ℕ) (slots : List Slot) (streams : List Bool)
       → n ≡ number 2 .get (drop pendingAt b) → slots ≡ getAll slot slotCount (drop slotsAt b) → streams ≡ getAll flag streamCount (drop streamsAt b)

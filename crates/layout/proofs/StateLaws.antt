@@ -15,8 +15,8 @@ use Rattle.channel.specs.declared.Channel.{Channel}
 use Rattle.channel.specs.Receiver.{freshState}
 use Rattle.fields.specs.Laws.{AllFit, Lawful}
 use Rattle.fields.proofs.FieldLaws.{InBytes, Any, all-any, number-lawful, choice-lawful, flag-lawful, both-lawful, many-lawful, standing-lawful, value-length, value-none, value-read, value-put, back as value-back, only as value-only}
-use Rattle.layout.specs.State.{phaseOf, phaseCount, slot, channel, stateLength, encode, decode, isState, stateFrom, stateInto}
-use Rattle.layout.specs.Laws.{SlotFits, StateFits, Back, Only}
+use Rattle.layout.specs.State.{phaseOf, phaseCount, slot, partsOf, ofParts, channel, SlotFits, StateFits, stateLength, encode, decode, isState, stateFrom, stateInto}
+use Rattle.layout.specs.Laws.{Back, Only}
 
 -- ---- each field has its laws
 
@@ -74,8 +74,8 @@ channel-lawful =
     (both-lawful (number-lawful 2)
     (both-lawful (many-lawful slot-lawful slotCount)
     (many-lawful flag-lawful streamCount))))
-    (λ s. (s .dead, (s .pending, (s .slots, s .streams))))
-    (λ t. record { dead = t .0; pending = t .1 .0; slots = t .1 .1 .0; streams = t .1 .1 .1 })
+    partsOf
+    ofParts
     (λ s. refl)
     (λ t. refl)
 

@@ -1,10 +1,11 @@
 -- A channel's state in bytes: its dead number (1), its pending count (2), eight slots of id (2), phase (1), data bit (1) and length (2), and a
 -- byte for each of the 128 streams, 179 in all. Numbers are little-endian, as wide as rule 3 lets them grow; a phase has its code, a bool 1
 -- for true. These are definitions: they assume nothing.
-use Prim.Native.Nat.{ℕ}
+use Prim.Native.Nat.{ℕ, _<_, _^_}
 use mathlib.Core.Bool.{Bool}
 use mathlib.Core.List.{List, [], _∷_}
 use mathlib.Core.Option.{Option}
+use mathlib.Core.Path.{_≡_}
 use lib.ListN.{length, getD}
 use Rattle.frame.specs.Limits.{slotCount, streamCount}
 use Rattle.requests.specs.declared.Phase.{Phase}
@@ -14,6 +15,7 @@ use Rattle.requests.specs.Phases.{code}
 use Rattle.channel.specs.declared.Channel.{Channel}
 use Rattle.channel.specs.Receiver.{freshState}
 use Rattle.fields.specs.Fields.{Field, number, choice, flag, both, many, standing, isValue, decode as decodeBy, valueFrom, valueInto}
+use Rattle.fields.specs.Laws.{AllFit}
 
 -- ---- the fields
 
@@ -37,6 +39,16 @@ slot =
     (λ x. (x .id, (x .phase, (x .databit, x .length))))
     (λ t. record { id = t .0; phase = t .1 .0; databit = t .1 .1 .0; length = t .1 .1 .1 })
 
+-- a state's parts, in the order of their bytes
+abbrev pub Parts : Type 0
+Parts = ℕ × (ℕ × (List Slot × List Bool))
+
+abbrev pub partsOf : Channel → Parts
+partsOf s = (s .dead, (s .pending, (s .slots, s .streams)))
+
+abbrev pub ofParts : Parts → Channel
+ofParts t = record { dead = t .0; pending = t .1 .0; slots = t .1 .1 .0; streams = t .1 .1 .1 }
+
 abbrev pub channel : Field Channel
 channel =
     standing
@@ -44,8 +56,21 @@ channel =
     (both (number 2)
     (both (many slot slotCount)
     (many flag streamCount))))
-    (λ s. (s .dead, (s .pending, (s .slots, s .streams))))
-    (λ t. record { dead = t .0; pending = t .1 .0; slots = t .1 .1 .0; streams = t .1 .1 .1 })
+    partsOf
+    ofParts
+
+-- ---- numbers that fit their fields
+
+pub record SlotFits (x : Slot) : Type 0 where
+  pub id : x .id < 2 ^ 16
+  pub length : x .length < 2 ^ 16
+
+pub record StateFits (s : Channel) : Type 0 where
+  pub dead : s .dead < 2 ^ 8
+  pub pending : s .pending < 2 ^ 16
+  pub slotCount : length (s .slots) ≡ slotCount
+  pub slots : AllFit SlotFits (s .slots)
+  pub streamCount : length (s .streams) ≡ streamCount
 
 -- ---- where the fields stand, and the length of all
 

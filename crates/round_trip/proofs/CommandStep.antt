@@ -27,7 +27,7 @@ use Rattle.sender.specs.Frames.{commandFrame}
 use Rattle.round_trip.proofs.FlagLaws.{stream-flags, command-flags}
 use Rattle.round_trip.proofs.Unbroken.{Regular, command-unbroken}
 use Rattle.round_trip.proofs.WholeFrame.{Between, FrameFits, areaWith, same-part, area-wide, nextOf, accepted-read, next-between}
-use Rattle.round_trip.proofs.States.{slotIn, stateWith, Sendable, Start, Meets}
+use Rattle.round_trip.proofs.States.{slotIn, stateWith, alike-next, Sendable, Start, Meets}
 use Rattle.round_trip.proofs.ReadsTo.{ReadsTo}
 
 -- 19 and 21 by the phase that is met
@@ -137,7 +137,7 @@ module _ (how : Wishes) (o : Sendable how) (s : Channel) (y : Start how s) (with
 
   the-state : nextOf r f .state ≡ stateWith how s (slotAfter how with-data last (length (bytes ++ payload))) (not (last && not with-data && how .end))
   unfolding accepted
-  the-state = λ i. record { dead = (b .live ∙ sym (y .live)) i; pending = sym (y .between) i; slots = the-slots i; streams = the-streams i }
+  the-state = alike-next how s (r .state) _ _ _ _ (y .between) (m .alike) the-slots the-streams
 
   the-part : take (length (bytes ++ payload)) (drop (partStart (lowestFree s)) (nextOf r f .work)) ≡ bytes ++ payload
   unfolding accepted isCommand isType placed

@@ -24,7 +24,7 @@ use Rattle.round_trip.proofs.FlagLaws.{stream-flags, data-flags}
 use Rattle.round_trip.proofs.Unbroken.{Regular, data-unbroken}
 use Rattle.round_trip.proofs.WholeFrame.{Between, FrameFits, areaWith, nextOf, accepted-read, next-between}
 use Rattle.round_trip.proofs.States as st
-use Rattle.round_trip.proofs.States.{slotIn, stateWith, Sendable, Start}
+use Rattle.round_trip.proofs.States.{slotIn, stateWith, alike-next, Sendable, Start}
 use Rattle.round_trip.proofs.ReadsTo.{ReadsTo}
 
 -- the slot after a data frame
@@ -92,7 +92,7 @@ module _ (how : Wishes) (o : Sendable how) (s : Channel) (y : Start how s) (r : 
 
   the-state : nextOf r f .state ≡ stateWith how s (slotAfterData how last) (not (last && how .end))
   unfolding accepted
-  the-state = λ i. record { dead = (b .live ∙ sym (y .live)) i; pending = sym (y .between) i; slots = the-slots i; streams = the-streams i }
+  the-state = alike-next how s (r .state) _ _ _ _ (y .between) (st.alike how o s y r Waiting true 0 used true waits) the-slots the-streams
 
   pub data-reads : ReadsTo how s r (frameBytes f) (requestRecord 2 (how .request) (bit last) payload) (slotAfterData how last) (not (last && how .end)) []
   data-reads = record {

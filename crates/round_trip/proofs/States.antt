@@ -1,7 +1,7 @@
 -- The states that a message leads through: the start's, with the request's slot at the lowest free place and the stream open or closed.
 -- No slot of the start has the request's id, so a search for it ends at that place. Assumes nothing.
 use Prim.Native.Nat.{ℕ, suc, _/_, _≤_, _<_}
-use mathlib.Core.Path.{_≡_, refl, ap}
+use mathlib.Core.Path.{_≡_, refl, sym, ap, _∙_}
 use mathlib.Core.Bool.{Bool, true, false, cond, _&&_, _||_, not, Bool·beq}
 use mathlib.Core.List.{List, [], _∷_}
 use native.Mathlib.Omega.{arith}
@@ -18,7 +18,7 @@ use Rattle.requests.specs.Phases.{isPhase, code}
 use Rattle.requests.specs.Slots.{isId, firstSlot, idIn, slotsFit}
 use Rattle.rules.proofs.Bools.{clash}
 use Rattle.channel.specs.declared.Channel.{Channel}
-use Rattle.channel.specs.Receiver.{Receiver, slotAt, placeOf, slotOf, lowestFree, target}
+use Rattle.channel.specs.Receiver.{Receiver, withPending, withSlots, withStreams, withSlot, slotAt, placeOf, slotOf, lowestFree, target}
 use Rattle.channel.proofs.SlotLaws.{each-fits, of-id, none-there}
 use Rattle.demands.proofs.PlaceLaws.{placed-at}
 use Rattle.demands.proofs.SeenLaws.{free-empty, lowest-is-free}
@@ -31,12 +31,17 @@ slotIn how phase with-data n = record { id = how .request; phase = phase; databi
 
 -- the start's state with a slot at the lowest free place, and the stream open or closed
 abbrev pub stateWith : Wishes → Channel → Slot → Bool → Channel
-stateWith how s x isOpen = record {
-  dead = s .dead;
-  pending = s .pending;
-  slots = set (s .slots) (lowestFree s) x;
-  streams = set (s .streams) (how .stream / 2) isOpen;
-}
+stateWith how s x isOpen = withStreams (withSlot s (lowestFree s) x) (set (s .streams) (how .stream / 2) isOpen)
+
+-- but for its slots and streams a state is the start's
+pub record Alike (s t : Channel) : Type 0 where
+  pub rest : (xs : List Slot) (bs : List Bool) → withStreams (withSlots t xs) bs ≡ withStreams (withSlots s xs) bs
+
+-- the state that such a one becomes by a frame, between frames
+pub alike-next : (how : Wishes) (s t : Channel) (x : Slot) (isOpen : Bool) (xs : List Slot) (bs : List Bool) → s .pending ≡ 0 → Alike s t
+    → xs ≡ set (s .slots) (lowestFree s) x → bs ≡ set (s .streams) (how .stream / 2) isOpen → withStreams (withSlots (withPending t 0) xs) bs ≡ stateWith how s x isOpen
+alike-next how s t x isOpen xs bs none a xs-is bs-is =
+    ap (λ (u : Channel). withPending u 0) (a .rest xs bs) ∙ rw (xs-is, bs-is) (ap (withPending (stateWith how s x isOpen)) (sym none))
 
 -- where no slot has the id, a search for it goes through all of them
 absent : (id : ℕ) (xs : List Slot) → idIn id xs ≡ false → firstSlot (isId id) xs ≡ length xs
@@ -79,6 +84,7 @@ pub record Meets (how : Wishes) (s : Channel) (with-data first : Bool) (bytes : 
   pub slots : (x : Slot) → set (r .state .slots) (lowestFree s) x ≡ set (s .slots) (lowestFree s) x
   pub streams : (b : Bool) → set (r .state .streams) (how .stream / 2) b ≡ set (s .streams) (how .stream / 2) b
   pub isOpen : getD (r .state .streams) (how .stream / 2) false ≡ not (first && how .begin)
+  pub alike : Alike s (r .state)
 
 same-bit : (b : Bool) → not (Bool·beq b b) ≡ false
 same-bit true = refl
@@ -99,6 +105,7 @@ meets-first how r y with-data =
       slots = λ x. refl;
       streams = λ b. refl;
       isOpen = y .stream;
+      alike = record { rest = λ xs bs. refl };
     }
 
 -- a state on the way
@@ -126,6 +133,9 @@ module _ (how : Wishes) (h : Sendable how) where
     pub slots-set : (z : Slot) → set (r .state .slots) (lowestFree s) z ≡ set (s .slots) (lowestFree s) z
     slots-set z = rw e (set-set (s .slots) (lowestFree s) x z)
 
+    pub alike : Alike s (r .state)
+    alike = record { rest = λ xs bs. ap (λ (t : Channel). withStreams (withSlots t xs) bs) e }
+
     pub streams-set : (b : Bool) → set (r .state .streams) (how .stream / 2) b ≡ set (s .streams) (how .stream / 2) b
     streams-set b = rw e (set-set (s .streams) (how .stream / 2) isOpen b)
 
@@ -149,4 +159,5 @@ module _ (how : Wishes) (h : Sendable how) where
         slots = slots-set s y r Collecting with-data (length bytes) refl true e;
         streams = streams-set s y r Collecting with-data (length bytes) refl true e;
         isOpen = stream-is s y r Collecting with-data (length bytes) refl true e;
+        alike = alike s y r Collecting with-data (length bytes) refl true e;
       }

@@ -14,7 +14,7 @@ use Rattle.requests.specs.Slots.{idIn}
 use Rattle.rules.specs.Rules.{commandByte}
 use Rattle.session.specs.Session.{Call, took, Outcome, uncut, session, events}
 use Rattle.channel.specs.declared.Channel.{Channel}
-use Rattle.channel.specs.Receiver.{Receiver, lowestFree}
+use Rattle.channel.specs.Receiver.{Receiver, withStreams, withSlot, lowestFree}
 use Rattle.channel.specs.Channel.{channel}
 use Rattle.demands.specs.Demands.{Sound}
 use Rattle.sender.specs.declared.Wishes.{Wishes}
@@ -56,12 +56,9 @@ payloads fs = map (λ (f : Frame). f .payload) fs
 
 -- the start's state with the lowest free slot now running that id, and the stream open exactly if end is not wished
 unfoldable pub running : Wishes → Bool → Channel → Channel
-running how with-data s = record {
-  dead = s .dead;
-  pending = s .pending;
-  slots = set (s .slots) (lowestFree s) (record { id = how .request; phase = Running; databit = with-data; length = 0 });
-  streams = set (s .streams) (how .stream / 2) (not (how .end));
-}
+running how with-data s =
+    withStreams (withSlot s (lowestFree s) (record { id = how .request; phase = Running; databit = with-data; length = 0 }))
+    (set (s .streams) (how .stream / 2) (not (how .end)))
 
 -- the command's record with that very command, the data bit and the mark, then those of the data; no answer, no frame refused, nothing pending
 pub record Arrives (how : Wishes) (command : List ℕ) (with-data : Bool) (bytes : List ℕ) (s : Channel) (o : Outcome Receiver) : Type 0 where
