@@ -16,7 +16,7 @@
 #![allow(dead_code)]
 
 /// The bytes of a state, exactly.
-pub const STATE: usize = 179;
+pub const STATE: usize = 180;
 /// The bytes of a work area, at least.
 pub const WORK: usize = 20_488;
 /// The bytes of an output, at least: those of the longest record.
@@ -29,6 +29,12 @@ pub const RECORD_HEAD: usize = 7;
 pub const COMMAND_LONGEST: usize = 2_048;
 /// The bytes of a frame's payload, at most.
 pub const PAYLOAD_LONGEST: usize = 4_096;
+/// The requests at a time, at most: the slots, counted from 0.
+pub const REQUESTS: usize = 8;
+/// The bytes of an entry of a row.
+pub const ENTRY: usize = 3;
+/// The bytes of a row's entries, one for each slot; a row has these at least.
+pub const ROW: usize = REQUESTS * ENTRY;
 /// The bytes of a board, exactly.
 pub const BOARD: usize = 288;
 /// The coils of a board, counted from 0.
@@ -54,6 +60,13 @@ pub mod raw {
             written: *mut usize,
         ) -> u32;
         pub fn hgrpc_finish(state: *mut u8, state_length: usize, id: u16) -> u32;
+        pub fn hgrpc_active(state: *const u8, state_length: usize, count: *mut usize) -> u32;
+        pub fn hgrpc_row(
+            state: *const u8,
+            state_length: usize,
+            row: *mut u8,
+            row_length: usize,
+        ) -> u32;
         pub fn hgrpc_check(command: *const u8, length: usize) -> u32;
         pub fn hgrpc_name(
             command: *const u8,
@@ -153,8 +166,56 @@ impl State {
         finish_bytes(&mut self.bytes, id)
     }
 
+    /// As `active_bytes`. A state that came from a fresh one is in shape.
+    pub fn active(&self) -> usize {
+        active_bytes(&self.bytes).expect("the state is in shape")
+    }
+
+    /// What is in each slot, in slot order. A dead channel's row is the same.
+    pub fn row(&self) -> [Entry; REQUESTS] {
+        let mut row = [0; ROW];
+        let number = row_bytes(&self.bytes, &mut row);
+        assert_eq!(number, 0, "the state is in shape, and the row long enough");
+        std::array::from_fn(|slot| Entry::read(&row[slot * ENTRY..][..ENTRY]))
+    }
+
     pub fn bytes(&self) -> &[u8] {
         &self.bytes
+    }
+}
+
+/// Where a slot's request is.
+#[derive(Clone, Copy, Debug, PartialEq, Eq)]
+pub enum Phase {
+    /// No request is in the slot.
+    Free,
+    /// Its command isn't whole.
+    Collecting,
+    /// Its command is whole, its data not.
+    Waiting,
+    /// All has come; finish frees the slot.
+    Running,
+}
+
+/// An entry of a row: what is in a slot. A free slot's id is 0.
+#[derive(Clone, Copy, Debug, PartialEq, Eq)]
+pub struct Entry {
+    pub id: u16,
+    pub phase: Phase,
+}
+
+impl Entry {
+    /// Three bytes of a row that was filled.
+    fn read(bytes: &[u8]) -> Entry {
+        Entry {
+            id: u16::from_le_bytes([bytes[0], bytes[1]]),
+            phase: match bytes[2] {
+                0 => Phase::Free,
+                1 => Phase::Collecting,
+                2 => Phase::Waiting,
+                _ => Phase::Running,
+            },
+        }
     }
 }
 
@@ -201,6 +262,30 @@ pub fn feed_bytes(state: &mut [u8], work: &mut [u8], input: &[u8], out: &mut [u8
 pub fn finish_bytes(state: &mut [u8], id: u16) -> u32 {
     // The pointer comes with its own length.
     unsafe { raw::hgrpc_finish(state.as_mut_ptr(), state.len(), id) }
+}
+
+/// How many requests are active, for a status lamp: the new frames accepted since the
+/// state was fresh less the finishes accepted, after every call on the channel, refused
+/// ones too, and of a dead channel like of a live one. Or 3: the bytes are no state, or
+/// one that finish would refuse with 3.
+pub fn active_bytes(state: &[u8]) -> Result<usize, u32> {
+    let mut count = 0;
+    // The pointer comes with its own length.
+    let number = unsafe { raw::hgrpc_active(state.as_ptr(), state.len(), &mut count) };
+    match number {
+        0 => Ok(count),
+        _ => Err(number),
+    }
+}
+
+/// Fills a row with an entry for each slot, in slot order: the request id, its low byte
+/// first, and the phase, 0 free, 1 collecting, 2 waiting, 3 running; of a free slot all
+/// 0. 0: the first `ROW` bytes are the entries, and the rest is as it was. 3, the bytes
+/// are no state, or one that finish would refuse with 3, then 9, the row is shorter than
+/// `ROW`: it is as it was. A dead channel's row is filled too.
+pub fn row_bytes(state: &[u8], row: &mut [u8]) -> u32 {
+    // Each pointer comes with its own length, and the slices lie apart.
+    unsafe { raw::hgrpc_row(state.as_ptr(), state.len(), row.as_mut_ptr(), row.len()) }
 }
 
 /// Whether bytes are a command: 0, 24, 25 or 26.

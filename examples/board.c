@@ -118,6 +118,22 @@ static uint32_t take_piece(const uint8_t *piece, size_t length)
     return fed.number;
 }
 
+/* What the panel shows when the board stops: how many requests are active, and if there
+ * are any, what is in which slot. A real board sets its status lamp by the count in each
+ * turn of its loop. The channel may be dead: it is asked all the same. */
+static void print_active(void)
+{
+    static const char *const phases[] = {"free", "collecting", "waiting", "running"};
+    hgrpc_entry row[HGRPC_REQUESTS];
+    size_t slot, count;
+    if (hgrpc_channel_active(&state, &count) != 0 || count == 0 || hgrpc_channel_row(&state, row) != 0)
+        return;
+    printf("active: %zu\n", count);
+    for (slot = 0; slot < HGRPC_REQUESTS; slot++)
+        if (row[slot].phase != HGRPC_PHASE_FREE)
+            printf("  slot %zu: request %u, %s\n", slot, row[slot].id, phases[row[slot].phase]);
+}
+
 int main(void)
 {
     /* A serial line has some bytes at a time, and at times none: that is a
@@ -135,6 +151,7 @@ int main(void)
              * call would answer this number and do nothing. A board that goes
              * on calls hgrpc_channel_fresh here; this one stops. */
             printf("refused %u: the channel is dead\n", number);
+            print_active();
             return 1;
         }
         if (number != 0) {
@@ -143,5 +160,6 @@ int main(void)
             return 2;
         }
     }
+    print_active();
     return 0;
 }

@@ -17,14 +17,15 @@
  *    2  work area shorter than 20,488
  *    3  state out of shape: pending above 4,103; a slot length above 2,048; a
  *       used id even or double; a free slot or one not collecting that breaks
- *       the rule above; dead number neither 0 nor 11 to 29; or, 8 or more
- *       pending, a held length above 4,096 or pending not below 8 plus it.
- *       Also: bytes that are no state at all, or no board
+ *       the rule above; dead number neither 0 nor 11 to 29; a wrong count; or,
+ *       8 or more pending, a held length above 4,096 or pending not below 8
+ *       plus it. Also: bytes that are no state at all, or no board
  *    4  finish: id not running
  *    5  stopped for output, as above
  *    6  lookup: key absent
  *    7  integer wanted, another type found
  *    8  integer outside -2^63 to 2^63-1
+ *    9  row shorter than eight entries
  *   11  payload length above 4,096
  *   12  request id even
  *   13  stream id even
@@ -70,17 +71,25 @@
 extern "C" {
 #endif
 
-#define HGRPC_STATE 179            /* bytes of a state, exactly */
+#define HGRPC_STATE 180            /* bytes of a state, exactly */
 #define HGRPC_WORK 20488           /* bytes of a work area, at least */
 #define HGRPC_OUTPUT 4103          /* bytes of an output, at least: the longest record */
 #define HGRPC_FRAME_HEAD 8         /* bytes of a frame before its payload */
 #define HGRPC_RECORD_HEAD 7        /* bytes of a record before its command or payload */
 #define HGRPC_COMMAND_LONGEST 2048 /* bytes of a command, at most */
 #define HGRPC_PAYLOAD_LONGEST 4096 /* bytes of a frame's payload, at most */
-#define HGRPC_REQUESTS 8           /* requests at a time, at most */
+#define HGRPC_REQUESTS 8           /* requests at a time, at most: the slots, counted from 0 */
+#define HGRPC_ENTRY 3              /* bytes of an entry of a row */
+#define HGRPC_ROW 24               /* bytes of a row's eight entries; a row has these at least */
 #define HGRPC_BOARD 288            /* bytes of a board, exactly */
 #define HGRPC_COILS 16             /* coils of a board, counted from 0 */
 #define HGRPC_LABEL_LONGEST 16     /* bytes of a coil's label, at most */
+
+/* The phases of a slot, as an entry of a row has them. */
+#define HGRPC_PHASE_FREE 0       /* no request is in the slot */
+#define HGRPC_PHASE_COLLECTING 1 /* its command isn't whole */
+#define HGRPC_PHASE_WAITING 2    /* its command is whole, its data not */
+#define HGRPC_PHASE_RUNNING 3    /* all has come; finish frees the slot */
 
 /* The kinds of records. Beside its bit a command has `loose`, which says how it is
  * written. */
@@ -111,6 +120,21 @@ uint32_t hgrpc_feed(uint8_t *state, size_t state_length,
 /* The owner has done what request `id` asked. 0: its slot is free again.
  * 3, the dead number or 4, tried in this order: nothing changed. */
 uint32_t hgrpc_finish(uint8_t *state, size_t state_length, uint16_t id);
+
+/* How many requests are active, for a status lamp: 0, and `count` is the new
+ * frames accepted since the state was fresh less the finishes accepted,
+ * HGRPC_REQUESTS at most. It is right after every call on the channel, refused
+ * ones too, and is told of a dead channel like of a live one. 3: the bytes are no
+ * state, or one that finish would refuse with 3; `count` is 0. */
+uint32_t hgrpc_active(const uint8_t *state, size_t state_length, size_t *count);
+
+/* Fills a row for a screen: an entry for each slot, in slot order, of HGRPC_ENTRY
+ * bytes: the request id, its low byte first, and the phase; of a free slot all 0.
+ * 0: the first HGRPC_ROW bytes are the entries, and the rest of the row is as it
+ * was. 3, the bytes are no state, or one that finish would refuse with 3, then 9,
+ * the row is shorter than HGRPC_ROW: the row is as it was. A dead channel's row is
+ * filled too. */
+uint32_t hgrpc_row(const uint8_t *state, size_t state_length, uint8_t *row, size_t row_length);
 
 /* Whether bytes are a command: 0, 24, 25 or 26. A command needs `name`; `args`
  * and `redirect` may be missing, and a missing `args` reads as an empty map. */
@@ -238,6 +262,12 @@ static inline size_t hgrpc_send_most(size_t size, bool with_data, size_t data_le
     return data == 0 || data > SIZE_MAX - command ? 0 : data + command;
 }
 
+/* The 16-bit number in two bytes, the low one first. */
+static inline uint16_t hgrpc_two_bytes(const uint8_t *bytes)
+{
+    return (uint16_t)(bytes[0] | (unsigned)bytes[1] << 8);
+}
+
 /* ---- the same with the state as a struct ---- */
 
 /* A channel's state. Its bytes are the archive's own affair; a copy of the
@@ -277,6 +307,33 @@ static inline hgrpc_fed hgrpc_channel_feed(hgrpc_state *state,
 static inline uint32_t hgrpc_channel_finish(hgrpc_state *state, uint16_t id)
 {
     return hgrpc_finish(state->bytes, sizeof state->bytes, id);
+}
+
+/* The answers of hgrpc_active: 0 and the count, or 3 and `count` is 0; never 3,
+ * where the state came from a fresh one. */
+static inline uint32_t hgrpc_channel_active(const hgrpc_state *state, size_t *count)
+{
+    return hgrpc_active(state->bytes, sizeof state->bytes, count);
+}
+
+/* An entry of a row: what is in a slot. A free slot's id is 0. */
+typedef struct {
+    uint16_t id;
+    uint8_t phase;
+} hgrpc_entry;
+
+/* 0: `row` is the eight entries that hgrpc_row fills. 3: it is as it was; never,
+ * where the state came from a fresh one. */
+static inline uint32_t hgrpc_channel_row(const hgrpc_state *state, hgrpc_entry row[HGRPC_REQUESTS])
+{
+    uint8_t bytes[HGRPC_ROW];
+    size_t slot;
+    uint32_t number = hgrpc_row(state->bytes, sizeof state->bytes, bytes, sizeof bytes);
+    for (slot = 0; number == 0 && slot < HGRPC_REQUESTS; slot++) {
+        row[slot].id = hgrpc_two_bytes(bytes + slot * HGRPC_ENTRY);
+        row[slot].phase = bytes[slot * HGRPC_ENTRY + 2];
+    }
+    return number;
 }
 
 /* ---- the same with the board as a struct ---- */
@@ -333,12 +390,6 @@ typedef struct {
     const uint8_t *bytes;
     size_t length;
 } hgrpc_record;
-
-/* The 16-bit number in two bytes, the low one first. */
-static inline uint16_t hgrpc_two_bytes(const uint8_t *bytes)
-{
-    return (uint16_t)(bytes[0] | (unsigned)bytes[1] << 8);
-}
 
 /* 1: `record` is the record at `*place` of the output, and `*place` is behind
  * it. 0: no whole record stands there, and nothing changed. It reads nothing

@@ -136,15 +136,19 @@ static void busy(void)
     IS(hgrpc_channel_finish(&b.state, 3), 4);
 }
 
-/* A busy channel is dead by this number: each call answers it. */
+/* A busy channel is dead by this number: each call answers it, and as many requests are
+ * active as before. With 20 that is all eight. */
 static void refused_with(uint32_t number, uint32_t answer)
 {
     hgrpc_fed fed;
+    size_t count = 99;
     IS(answer, number);
     fed = feed(BYTES(T1));
     IS(fed.number, number);
     IS(fed.taken, 0);
     IS(hgrpc_channel_finish(&b.state, 1), number);
+    IS(hgrpc_channel_active(&b.state, &count), 0);
+    IS(count, number == 20 ? HGRPC_REQUESTS : 2);
     busy();
 }
 
@@ -179,6 +183,106 @@ static void refused_payloads(void)
     for (id = 5; id <= 15; id += 2)
         IS(frame(id, 1, 0, 0x11, BYTES(COMMAND)), 0);
     refused_with(20, frame(17, 1, 0, 0x11, BYTES(COMMAND)));
+}
+
+/* So many requests are active, and the row has these entries first, an id and a phase
+ * each, and then free ones. */
+static void is_shown(int line, size_t wanted, size_t length, const unsigned first[][2])
+{
+    hgrpc_entry row[HGRPC_REQUESTS];
+    size_t slot, count = 99;
+    memset(row, 0xa5, sizeof row);
+    is(line, hgrpc_channel_active(&b.state, &count), 0);
+    is(line, (long long)count, (long long)wanted);
+    is(line, hgrpc_channel_row(&b.state, row), 0);
+    for (slot = 0; slot < HGRPC_REQUESTS; slot++) {
+        is(line, row[slot].id, slot < length ? first[slot][0] : 0);
+        is(line, row[slot].phase, slot < length ? first[slot][1] : HGRPC_PHASE_FREE);
+    }
+}
+#define SHOWN(count, first) is_shown(__LINE__, count, sizeof(first) / sizeof *(first), first)
+
+/* The count and the row after each call, from a fresh channel on: ids of two bytes, and
+ * a free slot before one that is not. */
+static void shown(void)
+{
+    static const unsigned one[][2] = {{0x0201, HGRPC_PHASE_COLLECTING}};
+    static const unsigned two[][2] = {{0x0201, HGRPC_PHASE_RUNNING}, {0xffff, HGRPC_PHASE_WAITING}};
+    static const unsigned finished[][2] = {{0, HGRPC_PHASE_FREE}, {0xffff, HGRPC_PHASE_WAITING}};
+    static const unsigned again[][2] = {{5, HGRPC_PHASE_RUNNING}, {0xffff, HGRPC_PHASE_RUNNING}};
+    hgrpc_channel_fresh(&b.state);
+    is_shown(__LINE__, 0, 0, NULL);
+    IS(frame(0x0201, 1, 1, 0x15, BYTES("\xa2")), 0);
+    SHOWN(1, one);
+    IS(frame(0x0201, 1, 0, 0x12, BYTES(NAME "\x44" "args\xa0")), 0);
+    IS(frame(0xffff, 1, 0, 0x19, BYTES(COMMAND)), 0);
+    SHOWN(2, two);
+    IS(hgrpc_channel_finish(&b.state, 0xffff), 4);
+    SHOWN(2, two);
+    IS(hgrpc_channel_finish(&b.state, 0x0201), 0);
+    SHOWN(1, finished);
+    IS(frame(0xffff, 1, 0, 0x22, BYTES("")), 0);
+    IS(frame(5, 1, 0, 0x11, BYTES(COMMAND)), 0);
+    SHOWN(2, again);
+    IS(frame(5, 1, 0, 0x11, BYTES(COMMAND)), 19);
+    SHOWN(2, again);
+}
+
+/* Rows of every length, of a live channel and of a dead one: 9 and nothing changed, or
+ * the entries and the rest as it was. */
+static void row_lengths(void)
+{
+    static const uint8_t entries[HGRPC_ROW] = {1, 0, HGRPC_PHASE_WAITING, 3, 0, HGRPC_PHASE_COLLECTING};
+    uint8_t row[2 * HGRPC_ROW], wanted[2 * HGRPC_ROW];
+    size_t length, dead;
+    busy();
+    for (dead = 0; dead < 2; dead++) {
+        if (dead)
+            IS(frame(2, 1, 0, 0x11, BYTES(COMMAND)), 12);
+        for (length = 0; length <= sizeof row; length++) {
+            memset(row, 0xa5, sizeof row);
+            memset(wanted, 0xa5, sizeof wanted);
+            if (length >= HGRPC_ROW)
+                memcpy(wanted, entries, sizeof entries);
+            IS(hgrpc_row(b.state.bytes, HGRPC_STATE, row, length), length < HGRPC_ROW ? 9 : 0);
+            IS(memcmp(row, wanted, sizeof row), 0);
+        }
+    }
+}
+
+/* A busy channel with each wrong count, and bytes that are no state: 3, before 9, and
+ * nothing is changed. */
+static void not_shown(void)
+{
+    static board before;
+    hgrpc_entry row[HGRPC_REQUESTS];
+    uint8_t bytes[HGRPC_ROW], kept[sizeof row];
+    size_t count, told = 9;
+    busy();
+    memset(row, 0xa5, sizeof row);
+    memset(kept, 0xa5, sizeof kept);
+    memset(bytes, 0xa5, sizeof bytes);
+    for (count = 0; count <= 255; count++) {
+        if (count == 2)
+            continue;
+        b.state.bytes[HGRPC_STATE - 1] = (uint8_t)count;
+        before = b;
+        IS(hgrpc_channel_active(&b.state, &told), 3);
+        IS(told, 0);
+        IS(hgrpc_channel_row(&b.state, row), 3);
+        IS(memcmp(row, kept, sizeof row), 0);
+        IS(hgrpc_row(b.state.bytes, HGRPC_STATE, bytes, HGRPC_ROW - 1), 3);
+        IS(hgrpc_channel_finish(&b.state, 1), 3);
+        IS(feed(BYTES(T1)).number, 3);
+        IS(memcmp(&b, &before, sizeof b), 0);
+        told = 9;
+    }
+    busy();
+    IS(hgrpc_active(b.state.bytes, HGRPC_STATE - 1, &told), 3);
+    IS(told, 0);
+    IS(hgrpc_row(b.state.bytes, HGRPC_STATE - 1, bytes, HGRPC_ROW), 3);
+    IS(hgrpc_row(b.state.bytes, HGRPC_STATE - 1, bytes, 0), 3);
+    IS(memcmp(bytes, kept, sizeof bytes), 0);
 }
 
 /* Settings, data in two frames, and a finish: what is accepted. */
@@ -564,6 +668,9 @@ int main(void)
     refused_headers();
     refused_payloads();
     accepted();
+    shown();
+    row_lengths();
+    not_shown();
     cut_records();
     lookups();
     counts();

@@ -4,8 +4,8 @@
 #[path = "../bindings/hgrpc.rs"]
 mod hgrpc;
 
-use hgrpc::{records, send, Board, Fed, Kind, Record, Request, Sent, State};
-use hgrpc::{BOARD, COILS, OUTPUT, STATE, WORK};
+use hgrpc::{records, send, Board, Entry, Fed, Kind, Phase, Record, Request, Sent, State};
+use hgrpc::{BOARD, COILS, OUTPUT, REQUESTS, ROW, STATE, WORK};
 
 const COMMAND: &[u8] = b"\xa2\x44name\x43set\x44args\xa0";
 const WITH_ARGUMENTS: &[u8] =
@@ -85,6 +85,64 @@ fn refused_calls() {
     assert_eq!(hgrpc::finish_bytes(&mut short, 1), 3);
     let answer = hgrpc::feed_bytes(&mut short, &mut work, b"", &mut out);
     assert_eq!(answer, fed(3, 0, 0));
+}
+
+/// So many requests are active, and the row has these entries first, then free ones.
+fn shows(state: &State, count: usize, first: &[(u16, Phase)]) {
+    assert_eq!(state.active(), count);
+    let mut row = [(0, Phase::Free); REQUESTS];
+    row[..first.len()].copy_from_slice(first);
+    assert_eq!(state.row(), row.map(|(id, phase)| Entry { id, phase }));
+}
+
+/// The count and the row after each call, refused ones too.
+fn lamp() {
+    use Phase::{Collecting, Free, Running, Waiting};
+    let mut work = vec![0; WORK];
+    let mut out = vec![0; OUTPUT];
+    let mut state = State::fresh();
+    let mut feed = |state: &mut State, frame: &[u8]| state.feed(&mut work, frame, &mut out).number;
+    shows(&state, 0, &[]);
+    assert_eq!(feed(&mut state, &frame(1, 1, 0x15, b"\xa2")), 0);
+    shows(&state, 1, &[(1, Collecting)]);
+    assert_eq!(feed(&mut state, &frame(1, 0, 0x12, &COMMAND[1..])), 0);
+    let mut wide = frame(3, 0, 0x19, COMMAND);
+    wide[4] = 0xff;
+    assert_eq!(feed(&mut state, &wide), 0);
+    shows(&state, 2, &[(1, Running), (0xff03, Waiting)]);
+    assert_eq!((state.finish(3), state.finish(1)), (4, 0));
+    shows(&state, 1, &[(0, Free), (0xff03, Waiting)]);
+    assert_eq!(feed(&mut state, &frame(1, 0, 0x12, COMMAND)), 21);
+    assert_eq!(state.finish(1), 21);
+    shows(&state, 1, &[(0, Free), (0xff03, Waiting)]);
+}
+
+/// Rows of a busy channel by their length, and by every wrong count.
+fn rows() {
+    let mut work = vec![0; WORK];
+    let mut state = State::fresh();
+    state.feed(&mut work, &frame(1, 1, 0x15, COMMAND), &mut vec![0; OUTPUT]);
+    let entries = [&[1, 0, 1][..], &[0; ROW - 3]].concat();
+    for length in 0..=2 * ROW {
+        let mut row = vec![0xa5; length];
+        let number = hgrpc::row_bytes(state.bytes(), &mut row);
+        let filled = if length < ROW { 0 } else { ROW };
+        assert_eq!(number, if filled == 0 { 9 } else { 0 });
+        assert_eq!(row[..filled], entries[..filled]);
+        assert!(row[filled..].iter().all(|byte| *byte == 0xa5));
+    }
+    for count in (0..=255).filter(|count| *count != 1) {
+        let mut bytes = state.bytes().to_vec();
+        bytes[STATE - 1] = count;
+        let mut row = [0xa5; ROW];
+        assert_eq!(hgrpc::active_bytes(&bytes), Err(3));
+        assert_eq!(hgrpc::row_bytes(&bytes, &mut row), 3);
+        assert_eq!(hgrpc::row_bytes(&bytes, &mut row[1..]), 3);
+        assert_eq!(row, [0xa5; ROW]);
+        assert_eq!(hgrpc::finish_bytes(&mut bytes, 1), 3);
+    }
+    assert_eq!(hgrpc::active_bytes(&state.bytes()[1..]), Err(3));
+    assert_eq!(hgrpc::active_bytes(state.bytes()), Ok(1));
 }
 
 /// Two records, cut at every place: only whole ones are read.
@@ -330,6 +388,8 @@ fn main() {
     }
     stop_and_refusal();
     refused_calls();
+    lamp();
+    rows();
     cut_records();
     lookups();
     marks();

@@ -48,6 +48,11 @@ change 's/record->bit = head\[6\] & 1;/record->bit = head[6];/' include/hgrpc.h 
 gcc -std=c99 -I"$out/wrong/third" -o "$out/wrong/calls" tests/calls.c "$archive"
 must_fail '^calls: line' "$out/wrong/calls"
 
+mkdir "$out/wrong/entries"
+change 's/row\[slot\]\.phase = bytes\[slot \* HGRPC_ENTRY + 2\]/row[slot].phase = bytes[2]/' include/hgrpc.h "$out/wrong/entries/hgrpc.h"
+gcc -std=c99 -I"$out/wrong/entries" -o "$out/wrong/calls" tests/calls.c "$archive"
+must_fail '^calls: line' "$out/wrong/calls"
+
 # The bindings, taken in as a module.
 rust -o "$out/calls_rust" -L native=target/staticlib -l static=hgrpc tests/calls.rs
 "$out/calls_rust"
@@ -63,6 +68,10 @@ change 's/request\.data\.is_some(),/true,/' bindings/hgrpc.rs "$out/wrong/bindin
 rust -o "$out/wrong/calls_rust" -L native=target/staticlib -l static=hgrpc "$out/wrong/calls.rs"
 must_fail 'assertion `left == right` failed' "$out/wrong/calls_rust"
 change 's/0 => Ok(on),/0 => Ok(!on),/' bindings/hgrpc.rs "$out/wrong/bindings/hgrpc.rs"
+rust -o "$out/wrong/calls_rust" -L native=target/staticlib -l static=hgrpc "$out/wrong/calls.rs"
+must_fail 'assertion `left == right` failed' "$out/wrong/calls_rust"
+
+change 's/1 => Phase::Collecting/1 => Phase::Waiting/' bindings/hgrpc.rs "$out/wrong/bindings/hgrpc.rs"
 rust -o "$out/wrong/calls_rust" -L native=target/staticlib -l static=hgrpc "$out/wrong/calls.rs"
 must_fail 'assertion `left == right` failed' "$out/wrong/calls_rust"
 
@@ -83,7 +92,7 @@ while IFS='|' read -r _ number words _; do
     fi
     meanings=$((meanings + 1))
 done < <(grep -E '^\| [0-9]+ \| ' docs/RULES.md)
-[ "$meanings" -eq 27 ] || { echo "the rules have $meanings numbers"; exit 1; }
+[ "$meanings" -eq 28 ] || { echo "the rules have $meanings numbers"; exit 1; }
 
 # So do those of the board and of the sending call, which each stand in one sentence of the rules; an example says them too.
 # $1 is how many there are, $2 the example, $3 what stands there before the words and $4 behind them, $5 the sentence.
@@ -107,8 +116,8 @@ must_fail 'does not say of 40' example_says 1 examples/board.c 'case N: return "
 
 # The archive has these calls and no others, and needs no more than this.
 calls=$(nm -g --defined-only "$archive" | awk '$2 == "T" { print $3 }' | sort | tr '\n' ' ')
-wanted="hgrpc_argument hgrpc_argument_count hgrpc_board_apply hgrpc_board_first hgrpc_board_label hgrpc_board_switch \
-hgrpc_check hgrpc_feed hgrpc_finish hgrpc_fresh hgrpc_integer hgrpc_loose hgrpc_name hgrpc_send "
+wanted="hgrpc_active hgrpc_argument hgrpc_argument_count hgrpc_board_apply hgrpc_board_first hgrpc_board_label \
+hgrpc_board_switch hgrpc_check hgrpc_feed hgrpc_finish hgrpc_fresh hgrpc_integer hgrpc_loose hgrpc_name hgrpc_row hgrpc_send "
 needs=$(nm -u "$archive" | awk '$1 == "U" { print $2 }' | sort | tr '\n' ' ')
 [ "$calls" = "$wanted" ] || { echo "the archive has the calls $calls"; exit 1; }
 [ "$needs" = "memcpy memset " ] || { echo "the archive needs $needs"; exit 1; }
@@ -139,3 +148,6 @@ must_fail 'and not$' "$out/programs" boards "$out/wrong/board" 1 300
 change 's/hgrpc_coils_apply(&coils/hgrpc_coils_apply(\&before/' examples/board.c "$out/wrong/board.c"
 gcc -std=c99 -Iinclude -o "$out/wrong/board" "$out/wrong/board.c" "$archive"
 must_fail 'and not$' "$out/programs" board "$out/wrong/board" samples/coils.capture
+change 's/row\[slot\]\.id, phases/row[0].id, phases/' examples/board.c "$out/wrong/board.c"
+gcc -std=c99 -Iinclude -o "$out/wrong/board" "$out/wrong/board.c" "$archive"
+must_fail 'and not$' "$out/programs" boards "$out/wrong/board" 1 300

@@ -11,11 +11,15 @@ mod met;
 #[path = "guard/over.rs"]
 mod over;
 
+use hgrpc::{active_bytes, feed_bytes, finish_bytes, fresh_bytes, raw, row_bytes};
 use hgrpc::{apply_bytes, first_board_bytes, label_bytes, switch_bytes, BOARD};
-use hgrpc::{feed_bytes, finish_bytes, fresh_bytes, raw, OUTPUT, STATE, WORK};
+use hgrpc::{OUTPUT, REQUESTS, ROW, STATE, WORK};
 use met::Met;
 use replay_lines::{Driver, Edge, Room};
+use second::bytes;
+use second::lamp;
 use second::replay::{to_hex, Replay};
+use second::state::{Phase, Slot, State};
 use std::process::exit;
 
 const EDGES: [Edge; 2] = [Edge::Behind, Edge::Before];
@@ -88,6 +92,7 @@ fn run([seed, sessions, commands, sends, boards]: [u64; 5]) {
         .chain((0..boards).flat_map(|index| generate::board_step(seed, index).lines()));
     lines.for_each(|line| sides.line(&line));
     EDGES.into_iter().for_each(other_states);
+    EDGES.into_iter().for_each(row_lengths);
     EDGES.into_iter().for_each(other_boards);
     EDGES.into_iter().for_each(unread_data);
     if let Some(missing) = sides.met.missing() {
@@ -100,8 +105,8 @@ fn run([seed, sessions, commands, sends, boards]: [u64; 5]) {
 /// States of other lengths than a state has: 3, or 2 if the work area is too
 /// short, and nothing is changed.
 fn other_states(edge: Edge) {
-    let [mut state, mut work, mut input, mut output] =
-        [2 * STATE, WORK, 8, OUTPUT].map(|most| Room::new(most, edge));
+    let [mut state, mut work, mut input, mut output, mut row] =
+        [2 * STATE, WORK, 8, OUTPUT, ROW].map(|most| Room::new(most, edge));
     for length in [0, 1, 7, STATE - 1, STATE + 1, 2 * STATE] {
         let bytes = vec![0; length];
         for (size, number) in [(0, 2), (WORK - 1, 2), (WORK, 3)] {
@@ -116,7 +121,39 @@ fn other_states(edge: Edge) {
         }
         assert_eq!(finish_bytes(state.put(&bytes), 1), 3);
         assert_eq!(fresh_bytes(state.put(&bytes)), 3);
+        assert_eq!(active_bytes(state.lent(length)), Err(3));
+        for size in [0, ROW] {
+            let lent = row.put(&[9; ROW][..size]);
+            assert_eq!(row_bytes(state.lent(length), lent), 3);
+            assert_eq!(row.lent(size), &[9; ROW][..size]);
+        }
         assert_eq!(state.lent(length), bytes);
+    }
+}
+
+/// Rows of every length to some more than eight entries, whole ones or not, of a state
+/// in shape and of one whose count is wrong.
+fn row_lengths(edge: Edge) {
+    let [mut state, mut row] = [STATE, 4 * ROW].map(|most| Room::new(most, edge));
+    let mut busy = State::fresh();
+    busy.slots[REQUESTS - 1] = Slot {
+        id: 0x0201,
+        phase: Phase::Running,
+        ..Slot::FREE
+    };
+    for count in [1, 0, 2] {
+        busy.count = count;
+        state.put(&bytes::write(&busy));
+        for length in 0..=4 * ROW {
+            let mut wanted = vec![9; length];
+            let number = lamp::fill(&busy, &mut wanted);
+            let lent = row.put(&vec![9; length]);
+            assert_eq!(row_bytes(state.lent(STATE), lent), number.into());
+            assert_eq!(row.lent(length), wanted, "a row of {length} bytes");
+        }
+        let told = active_bytes(state.lent(STATE));
+        assert_eq!(told.is_ok(), count == 1);
+        assert_eq!(state.lent(STATE), bytes::write(&busy));
     }
 }
 

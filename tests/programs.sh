@@ -56,10 +56,14 @@ bad=$(grep -c '^bad$' "$out/replay.answers")
 [ "$bad" -ge 1000 ] || { echo "only $bad of the damaged lines are bad"; exit 1; }
 wide=$(grep -acE '^set .*\b65536\b' "$out/lines")
 [ "$wide" -ge 20 ] || { echo "only $wide lines set a number that does not fit"; exit 1; }
+wide=$(grep -acE '^set .* (256|65536)$' "$out/lines")
+[ "$wide" -ge 20 ] || { echo "only $wide lines set a count that does not fit"; exit 1; }
 wide=$(grep -acE '^send .* (65536|18446744073709551616) ' "$out/lines")
 [ "$wide" -ge 20 ] || { echo "only $wide lines send a number that does not fit"; exit 1; }
 boarded=$(grep -acE '^board (0|4[0-3])$' "$out/replay.answers")
 [ "$boarded" -ge 200 ] || { echo "only $boarded of the damaged lines are commands for the board"; exit 1; }
+told=$(grep -acE '^(row [039]|active [03]) ' "$out/replay.answers")
+[ "$told" -ge 500 ] || { echo "only $told of the damaged lines ask for a row or a count"; exit 1; }
 marked=$(grep -acE '^loose 1$' "$out/replay.answers")
 [ "$marked" -ge 100 ] || { echo "only $marked of the damaged lines are loose commands"; exit 1; }
 echo "tests: $answered answers to damaged lines, $bad of them bad, each as the second program's"
@@ -229,6 +233,16 @@ command 1: 'off'
   coil 3: off, label 'north'" ] || { printf 'three commands become\n%s\n' "$printed"; exit 1; }
 must_fail 'and not$' does "'set'
   coil 3: on, no label" set coil=3 on=false
+# Where the line ends in the middle, and where a frame is refused there, the board tells which requests are active.
+active="command 1: 'upload', data follows
+  refused 40: unknown command
+active: 2
+  slot 0: request 1, waiting
+  slot 1: request 3, collecting"
+printed=$(head -c 93 samples/two-laptops.capture | "$out/coils")
+[ "$printed" = "$active" ] || { printf 'the board writes\n%s\n' "$printed"; exit 1; }
+printed=$({ head -c 93 samples/two-laptops.capture && printf '\0\0\0\2\0\1\0\x11'; } | "$out/coils") && { echo "the board takes an even id"; exit 1; }
+[ "$printed" = "${active/active/refused 12: the channel is dead$'\n'active}" ] || { printf 'the board writes\n%s\n' "$printed"; exit 1; }
 
 help=$("$send" --help)
 [[ $help == 'send [OPTION].. NAME [KEY=VALUE]..'* ]] || { echo "send --help writes '$help'"; exit 1; }

@@ -92,6 +92,7 @@ fn ready(sending: &Sending, random: &mut Random, tally: &mut Tally) -> State {
             length,
         };
     }
+    state.count = used as u8;
     if random.percent(50) {
         state.open.extend((0..5).map(|_| random.byte() | 1));
     }

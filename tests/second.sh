@@ -98,6 +98,30 @@ declare -A wrong_far_searches=(
     [places_cut]=$(seen_as 'Value::Bytes(\&bytes[at % 65536..][..length.min(bytes.len() - at % 65536)])')
     [lengths_cut]=$(seen_as 'Value::Bytes(\&content[..length % 65536])')
 )
+# Wrong counts of active requests, wrong readings of rule 3 for the count, and wrong answers to the panel (E6).
+declare -A wrong_counts=(
+    [finish_not_counted]='s/(news\.count() - finishes) as u8/news.count() as u8/'
+    [continuation_counted]='s/filter(|frame| frame\.is_command(NEW));/filter(|frame| frame.is_command(NEW | CONTINUATION));/'
+    [refused_new_counted]='s/^            self\.dead = number;$/& if frame.is_command(NEW) { self.history.lead(Frame::write(0, 0, 2, 0x11, \&[])); }/'
+    [wrong_count_fed]='s/!plain_ways(&state)\.is_empty() || /plain_ways(\&state).iter().any(|way| *way != crate::state::Way::CountWrong) || /'
+    [wrong_count_finished]='s/self\.shapeless\.is_some()/self.shapeless.as_ref().is_some_and(|state| plain_ways(state) != [crate::state::Way::CountWrong])/'
+)
+declare -A wrong_shapes=(
+    [too_high_passes]='s/usize::from(state\.count) != used/usize::from(state.count) < used/'
+    [too_low_passes]='s/usize::from(state\.count) != used/usize::from(state.count) > used/'
+)
+declare -A wrong_lamps=(
+    [dead_count_refused]='s/match plain_ways(state)\[\.\.\] {/if state.dead != 0 { return (state.dead, 0); } &/'
+    [refused_count_told]='s/(3, 0)/(3, state.count)/'
+    [seven_entries]='s/length < ROW/length < ROW - ENTRY/'
+    [nine_before_three]='/^    (3, /{h;d;}; /^    (9, /G'
+    [dead_row_refused]='s/let mut refusals = REFUSALS\.iter();/if state.dead != 0 { return state.dead; } &/'
+    [refused_row_touched]='s/return \*number;/row.iter_mut().take(1).for_each(|byte| *byte = 0); &/'
+    [ninth_entry_written]='s/zip(&state\.slots)/zip(state.slots.iter().chain([\&crate::state::Slot::FREE]))/'
+    [free_entry_left]='s/let \[low, high\] = /if slot.phase == crate::state::Phase::Free { continue; } &/'
+    [used_slots_first]='s/zip(&state\.slots)/zip({ let mut slots = state.slots; slots.sort_by_key(|slot| slot.phase == crate::state::Phase::Free); slots })/'
+    [high_byte_first]='s/slot\.id\.to_le_bytes()/slot.id.to_be_bytes()/'
+)
 
 (
     make_wrong_lines wrong_senders sender.rs
@@ -105,11 +129,15 @@ declare -A wrong_far_searches=(
     make_wrong_lines wrong_layouts board.rs
     make_wrong_lines wrong_searches command.rs
     make_wrong_lines wrong_far_searches command.rs
+    make_wrong_lines wrong_counts receiver.rs
+    make_wrong_lines wrong_shapes state.rs
+    make_wrong_lines wrong_lamps lamp.rs
 ) &
 wrong_copies=$!
 children+=("$wrong_copies")
 wrongs=$((wrongs + ${#wrong_senders[@]} + ${#wrong_boards[@]} + ${#wrong_layouts[@]} \
-    + ${#wrong_searches[@]} + ${#wrong_far_searches[@]}))
+    + ${#wrong_searches[@]} + ${#wrong_far_searches[@]} \
+    + ${#wrong_counts[@]} + ${#wrong_shapes[@]} + ${#wrong_lamps[@]}))
 
 "$out/sessions" traces
 "$out/sessions" check 1 "$sessions"
@@ -193,6 +221,9 @@ wrong_bytes high_byte_first 's/&number\.to_le_bytes()\[\.\.count\]/\&number.to_b
 wrong_bytes data_before_phase 's/bytes\.push(slot\.phase as u8);/bytes.push(slot.data.into());/; t; s/bytes\.push(slot\.data\.into());/bytes.push(slot.phase as u8);/; s/match bytes\[2\]/match bytes[3]/; s/flag(&bytes\[3\])/flag(\&bytes[2])/'
 wrong_bytes fifth_phase 's/3 => Phase::Running/3.. => Phase::Running/'
 wrong_bytes bool_of_two 's/1 => Some(true)/1.. => Some(true)/'
+# What no line shows: the count at another place of the bytes, and a row that is too short by one byte.
+wrong_copy count_before_streams bytes.rs 's/^    let open = |index/bytes.push(state.count); &/; s/^    bytes\.push(state\.count);$//; s/let (streams, count) = rest\.split_at(STREAMS)/let (count, streams) = rest.split_at(1)/'
+wrong_copy row_of_23 lamp.rs 's/length < ROW/length < ROW - 1/'
 
 wrong_copy notation capture.rs 's/258(\[{}\])/[{}]/'
 rust_program tests/programs.rs "$copy/programs" "$copy"

@@ -6,12 +6,15 @@
 //!     sessions commands SEED COUNT  prints the lines of the calls on COUNT commands
 //!
 //! `check` also counts what the sessions meet, and fails if one of the
-//! things it counts comes up less than 20 times.
+//! things it counts comes up less than 20 times; of a count that is one too
+//! high or one too low, less than 100 times.
 
 #[path = "sessions/counts.rs"]
 mod counts;
 #[path = "sessions/coverage.rs"]
 mod coverage;
+#[path = "sessions/lamps.rs"]
+mod lamps;
 #[path = "sessions/traces.rs"]
 mod traces;
 #[path = "sessions/watch.rs"]
@@ -22,9 +25,6 @@ use second::replay::to_hex;
 use std::io::{stdout, BufWriter, Result, Write};
 use std::process::exit;
 use watch::Watch;
-
-/// How often everything that is counted must come up.
-const LEAST: u64 = 20;
 
 fn make(seed: u64, count: u64) -> Result<()> {
     let mut output = BufWriter::new(stdout().lock());
@@ -65,9 +65,9 @@ fn check(seed: u64, count: u64) {
         }
     }
     coverage.print();
-    if let Some((name, times)) = coverage.rarest().filter(|(_, times)| *times < LEAST) {
+    if let Some((name, times, least)) = coverage.rare() {
         fail(&format!(
-            "\"{name}\" came up {times} times in {count} sessions, less than {LEAST}"
+            "\"{name}\" came up {times} times in {count} sessions, less than {least}"
         ));
     }
     println!("sessions: {count} sessions, {lines} lines, each session as the uncut reading");

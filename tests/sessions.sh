@@ -1,5 +1,5 @@
 # Sessions and commands as lines: the archive, through the program of
-# tests/replay, against the second program.
+# tests/replay, against the second program; and its count after every call.
 
 # Lines and their answers, by hand.
 "$out/replay" <tests/replay_lines/requests.txt | cmp - tests/replay_lines/answers.txt
@@ -22,9 +22,32 @@ compare_sessions() {
 answered=0
 answers=$out
 compare_sessions 1 1
-for copy in "${wrong_receivers[@]}"; do
-    must_fail '^replay differs' compare_lines "$out/lines" "$copy/second_replay"
+
+# A wrong receiver, a wrong count and a wrong answer to the panel is found out by the first of them.
+awk 'length < 2000 && ++taken <= 2000' "$out/lines" >"$out/first"
+for copy in "${wrong_receivers[@]}" "$out"/wrong/wrong_{counts,shapes,lamps}/*; do
+    must_fail '^replay differs' compare_lines "$out/first" "$copy/second_replay"
 done
+
+# The archive's count and a row after every call; wrong readings of them, and wrong tallies of what was accepted.
+archive_program tests/lamp.rs "$out/lamp" "$out"
+"$out/lamp" 1 "$sessions"
+must_fail 'too seldom' "$out/lamp" 1 100
+for wrong in count_before_streams:'the count is ' row_of_23:'row of 23 bytes: 9 '; do
+    copy=$out/wrong/${wrong%%:*}
+    build_lines "$copy"
+    archive_program tests/lamp.rs "$copy/lamp" "$copy"
+    must_fail "${wrong#*:}" "$copy/lamp" 1 100
+done
+mkdir -p "$out/wrong/tally/lamp"
+cp tests/lamp.rs tests/tally.rs "$out/wrong/tally"
+for expression in 's/i64::from(new && !refused)/i64::from(new)/' 's/frame\[7\] & 1 != 0/frame[7] \& 3 != 0/' \
+    's/i64::from(number == 0)/0/'; do
+    change "$expression" tests/lamp/history.rs "$out/wrong/tally/lamp/history.rs"
+    archive_program "$out/wrong/tally/lamp.rs" "$out/wrong/tally/run" "$out"
+    must_fail 'the count is' "$out/wrong/tally/run" 1 100
+done
+
 "$out/sessions" commands 1 "$commands" >"$out/lines"
 compare_lines "$out/lines" "$out/second_replay"
 echo "tests: $sessions sessions and $commands commands, $answered answers of replay, each as the second program's"
@@ -33,5 +56,6 @@ if [ "$long" -eq 1 ]; then
     answered=0
     compare_sessions 2 201
     "$out/sessions" check 2 $((200 * sessions))
+    "$out/lamp" 2 $((200 * sessions))
     echo "tests: $((200 * sessions)) sessions more, $answered answers of replay, each as the second program's"
 fi

@@ -10,15 +10,20 @@
 
 #[path = "states/calls.rs"]
 mod calls;
+#[path = "states/lamps.rs"]
+mod lamps;
 #[path = "states/real.rs"]
 mod real;
+#[path = "states/tally.rs"]
+mod tally;
 
-use calls::{Calls, Tally};
+use calls::Calls;
 use generate::Random;
 use real::{real_states, Real};
-use second::bytes::STATE;
+use second::bytes::{self, COUNT_AT, STATE, STREAMS_AT};
 use std::process::exit;
 use std::thread;
+use tally::Tally;
 
 /// Every change of one byte.
 fn single_changes(real: &Real, calls: &mut Calls) -> Result<(), String> {
@@ -38,8 +43,9 @@ fn single_changes(real: &Real, calls: &mut Calls) -> Result<(), String> {
 fn several_changes(real: &Real, random: &mut Random, calls: &mut Calls) -> Result<(), String> {
     let mut bytes = real.state.clone();
     for _ in 0..random.between(2, 6) {
-        let place = match random.below(3) {
-            0 => random.below(STATE - 128),
+        let place = match random.below(12) {
+            0..=3 => random.below(STREAMS_AT),
+            4 => COUNT_AT,
             _ => random.below(STATE),
         };
         let any = random.byte();
@@ -50,12 +56,16 @@ fn several_changes(real: &Real, random: &mut Random, calls: &mut Calls) -> Resul
         .map_err(|reason| format!("{}, changed to {bytes:02x?}: {reason}", real.kind))
 }
 
-/// Bytes at random: any, or small ones, which are often a state.
+/// Bytes at random: any, or small ones, which are often a state. The count of a
+/// state is then mostly right.
 fn random_bytes(work: &[u8], random: &mut Random, calls: &mut Calls) -> Result<(), String> {
     let largest = random.pick(&[255, 255, 4, 3, 2, 1, 1, 1]);
-    let bytes: Vec<u8> = (0..STATE)
+    let mut bytes: Vec<u8> = (0..STATE)
         .map(|_| random.between(0, largest) as u8)
         .collect();
+    if let Some(state) = bytes::read(&bytes).filter(|_| random.percent(80)) {
+        bytes[COUNT_AT] = state.used().count() as u8;
+    }
     calls
         .hold(&bytes, work)
         .map_err(|reason| format!("{bytes:02x?}: {reason}"))

@@ -4,8 +4,9 @@
 use std::collections::BTreeSet;
 
 /// The answers that begin with a number.
-const NUMBERED: [&str; 9] = [
-    "fed", "finished", "checked", "named", "argument", "integer", "sent", "counted", "loose",
+const NUMBERED: [&str; 11] = [
+    "fed", "finished", "active", "row", "checked", "named", "argument", "integer", "sent",
+    "counted", "loose",
 ];
 
 #[derive(Default)]
@@ -34,6 +35,7 @@ impl Met {
                 self.see("output", length.parse().expect("a number"));
                 self.see("input", spelled(input));
             }
+            ("row", [_, entries]) => self.see("entries", entries.parse().expect("a number")),
             ("board", [_, command]) if *command != "fresh" => {
                 self.see("board", told[1].parse().expect("a number"));
                 self.see("applied", spelled(command));
@@ -65,9 +67,12 @@ impl Met {
     pub fn missing(&self) -> Option<String> {
         let fed = [0, 1, 2, 3, 5].into_iter().chain(11..=29).collect();
         let finished = [0, 3, 4].into_iter().chain(11..=29).collect();
-        let wanted: [(&str, Vec<usize>); 21] = [
+        let wanted: [(&str, Vec<usize>); 24] = [
             ("fed", fed),
             ("finished", finished),
+            ("active", vec![0, 3]),
+            ("row", vec![0, 3, 9]),
+            ("entries", vec![0, 1, 7, 8, 9]),
             ("checked", vec![0, 24, 25, 26]),
             ("named", vec![0, 24, 25, 26]),
             ("argument", vec![0, 24, 25, 26, 6]),

@@ -1,7 +1,7 @@
 //! Calls that need the last byte of each buffer. Where that byte is not there,
 //! since the length lent is one too many, the page behind is touched.
 
-use hgrpc::{raw, BOARD, OUTPUT, STATE, WORK};
+use hgrpc::{raw, BOARD, OUTPUT, REQUESTS, ROW, STATE, WORK};
 use replay_lines::{Edge, Room};
 use second::bytes;
 use second::replay::{state_text, to_hex};
@@ -26,6 +26,7 @@ fn start() -> State {
         };
     }
     state.open.insert(1);
+    state.count = 7;
     state
 }
 
@@ -63,7 +64,8 @@ pub fn lines() -> Vec<String> {
         format!("set {}", state_text(&start())),
     ];
     lines.extend(frames().map(|frame| format!("feed {OUTPUT} {}", to_hex(&frame))));
-    lines.extend(["state", "tail", "worksum"].map(String::from));
+    lines.extend(["state", "tail", "worksum", "active"].map(String::from));
+    lines.push(format!("row {REQUESTS}"));
     lines.push(format!("arg {command} 6b"));
     lines.push(format!("name {command}"));
     let [name, pairs, data] = [NAME, PAIRS, &DATA].map(to_hex);
@@ -126,6 +128,24 @@ fn feeds(over: &str) {
         assert_eq!(written, 7 + frame.len() - 8);
     }
     assert_eq!(state.length, STATE);
+}
+
+/// The last byte of a state is the count, and that of a row the last slot's phase.
+fn lamps(over: &str) {
+    let start = bytes::write(&start());
+    let mut counted = Lent::new("counted", &start, over);
+    let mut told = Lent::new("told", &start, over);
+    let mut row = Lent::new("row", &[9; ROW], over);
+    let mut count = 0;
+    // As above.
+    let numbers = unsafe {
+        [
+            raw::hgrpc_active(counted.pointer(), counted.length, &mut count),
+            raw::hgrpc_row(told.pointer(), told.length, row.pointer(), row.length),
+        ]
+    };
+    assert_eq!((numbers, count), ([0, 0], 7));
+    assert_eq!(row.room.lent(ROW)[ROW - 6..], [13, 0, 3, 0, 0, 0]);
 }
 
 /// The command's last byte is the head of its argument.
@@ -224,6 +244,7 @@ fn boards(over: &str) {
 /// Makes the calls with a byte too many of one buffer.
 pub fn lend(over: &str) {
     feeds(over);
+    lamps(over);
     lookups(over);
     marks(over);
     boards(over);
@@ -233,9 +254,9 @@ pub fn lend(over: &str) {
 /// Makes them with each buffer in turn, in a program of its own, which a touched
 /// page must end; and with none, which must come to its end.
 pub fn each() {
-    const BUFFERS: [&str; 15] = [
-        "none", "state", "work", "input", "output", "command", "key", "marked", "name", "pairs",
-        "data", "frames", "board", "applied", "first",
+    const BUFFERS: [&str; 18] = [
+        "none", "state", "work", "input", "output", "counted", "told", "row", "command", "key",
+        "marked", "name", "pairs", "data", "frames", "board", "applied", "first",
     ];
     for buffer in BUFFERS {
         let program = std::env::current_exe().expect("a program knows its place");

@@ -3,22 +3,30 @@
 
 use crate::fail;
 use second::board::Board;
-use second::capture::{byte_string, walk, End, Record};
+use second::capture::{byte_string, Record};
 use second::command;
+use second::frame::RECORD;
+use second::receiver::Receiver;
+use second::state::{Phase, State, WORK};
 use std::collections::BTreeMap;
 use std::fs;
 use std::io::{Result, Write};
 use std::process::{Command, Stdio};
 
-/// The beginnings of what is printed of a command, and how often each must come up.
-const KINDS: [&str; 5] = [
+/// Parts of what is printed of a command and of a slot, and how often each must come up.
+const KINDS: [&str; 7] = [
     "  refused 40:",
     "  refused 41:",
     "  refused 42:",
     "  refused 43:",
     "  coil ",
+    ", collecting",
+    ", waiting",
 ];
 const LEAST: usize = 20;
+
+/// The bytes that the board reads at a time, in turn.
+const PIECES: [usize; 3] = [3, 9, 0];
 
 /// The meaning of a number, from the table of the header.
 fn words(number: u32) -> &'static str {
@@ -56,6 +64,73 @@ fn printed(record: &Record, board: &mut Board) -> String {
     text
 }
 
+/// The second implementation in the board's place.
+struct Site {
+    receiver: Receiver,
+    board: Board,
+    text: String,
+}
+
+impl Site {
+    /// The number of a piece. The output has room for one record, which is done and
+    /// finished before the rest is offered.
+    fn piece(&mut self, mut piece: &[u8]) -> u8 {
+        loop {
+            let mut output = [0; RECORD];
+            let fed = self.receiver.feed(piece, &mut output);
+            if fed.written > 0 {
+                let record = Record::read(&output[..fed.written]);
+                self.text += &printed(&record, &mut self.board);
+                if record.is_last() {
+                    self.receiver.finish(record.request);
+                }
+            }
+            if fed.number != 5 {
+                return fed.number;
+            }
+            piece = &piece[fed.taken..];
+        }
+    }
+
+    /// The slots that are in use at the end.
+    fn active(&mut self) {
+        let state = self.receiver.state();
+        if state.count > 0 {
+            self.text += &format!("active: {}\n", state.count);
+        }
+        for (place, slot) in state.slots.iter().enumerate() {
+            let phase = match slot.phase {
+                Phase::Free => continue,
+                Phase::Collecting => "collecting",
+                Phase::Waiting => "waiting",
+                Phase::Running => "running",
+            };
+            self.text += &format!("  slot {place}: request {}, {phase}\n", slot.id);
+        }
+    }
+}
+
+/// What the board prints of a capture, and whether it refuses the capture.
+fn wanted(mut capture: &[u8]) -> (String, bool) {
+    let mut site = Site {
+        receiver: Receiver::start(State::fresh(), vec![0; WORK]),
+        board: Board::first(),
+        text: String::new(),
+    };
+    let mut number = 0;
+    let mut sizes = PIECES.into_iter().cycle();
+    while number == 0 && !capture.is_empty() {
+        let size = sizes.next().unwrap_or_default().min(capture.len());
+        number = site.piece(&capture[..size]);
+        capture = &capture[size..];
+    }
+    if number != 0 {
+        site.text += &format!("refused {number}: the channel is dead\n");
+    }
+    site.active();
+    (site.text, number != 0)
+}
+
 /// Runs the board on a capture. It stops at a refusal, so that it may not read
 /// all that is written to it.
 fn run(program: &str, capture: &[u8]) -> Result<(Vec<u8>, Option<i32>)> {
@@ -73,13 +148,7 @@ fn run(program: &str, capture: &[u8]) -> Result<(Vec<u8>, Option<i32>)> {
 /// What the board prints of a capture, which is what the second implementation
 /// has, and whether it refused the capture.
 fn compare(program: &str, capture: &[u8], name: &str) -> Result<(String, bool)> {
-    let mut wanted = String::new();
-    let mut board = Board::first();
-    let end = walk(capture, |record| wanted += &printed(record, &mut board));
-    let refused = matches!(end, End::Refused { .. });
-    if let End::Refused { number, .. } = end {
-        wanted += &format!("refused {number}: the channel is dead\n");
-    }
+    let (wanted, refused) = wanted(capture);
     let (text, status) = run(program, capture)?;
     if text != wanted.as_bytes() || status != Some(refused.into()) {
         let text = String::from_utf8_lossy(&text);
@@ -104,12 +173,13 @@ pub fn captures(program: &str, seed: u64, count: u64) -> Result<()> {
     let mut kinds: BTreeMap<&str, usize> = BTreeMap::new();
     for index in 0..count {
         let name = format!("seed {seed}, capture {index}");
-        refused += u64::from(compare(program, &generate::capture(seed, index), &name)?.1);
+        let (any, dead) = compare(program, &generate::capture(seed, index), &name)?;
+        refused += u64::from(dead);
         let name = format!("seed {seed}, capture {index} for a board");
-        let (text, _) = compare(program, &generate::board_capture(seed, index), &name)?;
+        let (own, _) = compare(program, &generate::board_capture(seed, index), &name)?;
         for kind in KINDS {
-            let lines = text.lines().filter(|line| line.starts_with(kind));
-            *kinds.entry(kind).or_default() += lines.count();
+            let lines = own.lines().chain(any.lines());
+            *kinds.entry(kind).or_default() += lines.filter(|line| line.contains(kind)).count();
         }
     }
     if refused < count / 4 || refused > count * 3 / 4 {

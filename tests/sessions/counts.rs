@@ -4,7 +4,7 @@ use crate::coverage::Coverage;
 use crate::watch::{ways, Before, Feed};
 use second::frame::{claimed, COMMAND, CONTINUATION, HEADER, MORE, PAYLOAD, RECORD, SETTINGS};
 use second::receiver::{Event, Receiver};
-use second::state::{plain_ways, Phase, Slot, State, SLOTS};
+use second::state::{plain_ways, Phase, State, SLOTS};
 
 /// What the counts must remember from one call to the next.
 #[derive(Default)]
@@ -25,7 +25,8 @@ impl Coverage {
         let Some(state) = state else {
             return;
         };
-        self.add_if(used(state) > 0, "start with slots in use");
+        let used = state.used().next().is_some();
+        self.add_if(used, "start with slots in use");
         self.add_if(state.pending > 0, "start in mid-frame");
         self.add_if(state.pending == 4103, "start with 4,103 bytes pending");
         let header = (3..8).contains(&state.pending) && claimed(receiver.work()) > PAYLOAD;
@@ -50,6 +51,7 @@ impl Coverage {
                 self.number(3);
                 let (plain, held) = ways(receiver);
                 self.shape(&plain, &held);
+                self.feed_refused(receiver, feed);
                 self.add_if(dead >= 11, "3 though dead");
             }
             5 => self.stop(receiver, feed),
@@ -129,6 +131,7 @@ impl Coverage {
                 self.accepted(frame, &history[..place]);
             }
         }
+        let used = |state: &State| state.used().count();
         let filled = used(&receiver.state()) == SLOTS && used(&before.state) < SLOTS;
         self.add_if(filled, "eighth request");
     }
@@ -142,11 +145,13 @@ impl Coverage {
                 let odd = !ways(receiver).1.is_empty();
                 self.add_if(odd, "finish accepted with a held length out of shape");
             }
-            3 => self.add("3 answered to a finish"),
+            3 => {
+                self.add("3 answered to a finish");
+                self.finish_refused(receiver, id);
+            }
             4 => {
                 self.number(4);
-                let mut slots = before.state.slots.iter();
-                let held = slots.find(|slot| is_used(slot) && slot.id == id);
+                let held = before.state.used().find(|slot| slot.id == id);
                 self.add(match held.map(|slot| slot.phase) {
                     Some(Phase::Collecting) => "finish of a collecting id, 4",
                     Some(_) => "finish of a waiting id, 4",
@@ -156,12 +161,4 @@ impl Coverage {
             _ => self.add("dead answered to a finish"),
         }
     }
-}
-
-fn is_used(slot: &&Slot) -> bool {
-    slot.phase != Phase::Free
-}
-
-fn used(state: &State) -> usize {
-    state.slots.iter().filter(is_used).count()
 }

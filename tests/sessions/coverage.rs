@@ -1,6 +1,7 @@
 //! How often the sessions meet each thing that is to be met.
 
 use crate::counts::Memory;
+use crate::lamps;
 use generate::{heads, Head};
 use second::command::lacks_args;
 use second::frame::{
@@ -10,7 +11,7 @@ use second::receiver::Event;
 use second::state::Way;
 use std::collections::BTreeMap;
 
-/// All but the refusal numbers and the ways to be out of shape.
+/// All but the refusal numbers, the ways to be out of shape, and what is of E6.
 const MET: [&str; 70] = [
     "2 though 3 applies too",
     "3 though dead",
@@ -93,9 +94,9 @@ pub struct Coverage {
 
 impl Coverage {
     pub fn new() -> Coverage {
-        let numbers = (1..=8).chain(11..=29).map(number_name);
+        let numbers = (1..=9).chain(11..=29).map(number_name);
         let ways = Way::ALL.into_iter().map(way_name);
-        let met = MET.into_iter().map(String::from);
+        let met = MET.into_iter().map(String::from).chain(lamps::names());
         let names: Vec<String> = numbers.chain(ways).chain(met).collect();
         Coverage {
             counts: names.iter().map(|name| (name.clone(), 0)).collect(),
@@ -134,9 +135,14 @@ impl Coverage {
         }
     }
 
-    pub fn rarest(&self) -> Option<(&str, u64)> {
-        let counts = self.counts.iter().map(|(name, count)| (&name[..], *count));
-        counts.min_by_key(|(_, count)| *count)
+    /// Something that came up less often than it must, how often, and how often it
+    /// must.
+    pub fn rare(&self) -> Option<(&str, u64, u64)> {
+        let mut counts = self
+            .counts
+            .iter()
+            .map(|(name, count)| (&name[..], *count, least(name)));
+        counts.find(|(_, count, least)| count < least)
     }
 
     /// An accepted frame, and what was accepted before it.
@@ -248,10 +254,19 @@ fn payloads<'p>(frame: &'p Frame, past: &'p [Event]) -> Vec<&'p [u8]> {
     payloads
 }
 
+/// How often a thing must come up.
+fn least(name: &str) -> u64 {
+    match lamps::WRONG_COUNTS.contains(&name) {
+        true => 100,
+        false => 20,
+    }
+}
+
 fn number_name(number: u8) -> String {
     let what = match number {
         1..=5 => "answered",
         6..=8 => "answered to a lookup",
+        9 => "answered to a row",
         _ => "refused a frame",
     };
     format!("{number} {what}")

@@ -47,6 +47,14 @@ impl<'t> Trace<'t> {
         self.ask(&format!("feed 5000 {hex}"), &answer);
         self.ask("tail", "tail kept");
     }
+
+    /// The count, and a row whose first entries are these, the others free.
+    fn shows(&mut self, count: usize, first: &str) {
+        self.ask("active", &format!("active 0 {count}"));
+        let free = 8 - first.matches(' ').count();
+        let answer = format!("row 0{first}{}", " 0:f".repeat(free));
+        self.ask("row 8", &answer);
+    }
 }
 
 /// The lines are answered by a program that reads them from its standard
@@ -61,6 +69,8 @@ pub fn run(program: Option<&str>) -> Result<()> {
     command_bytes(table);
     without_args(table);
     loosely_written(table);
+    lamp(table);
+    wrong_counts(table);
     let answers = match program {
         Some(program) => program_answers(program, table)?,
         None => second_answers(table),
@@ -70,7 +80,7 @@ pub fn run(program: Option<&str>) -> Result<()> {
         assert_eq!(*answer, asked.answer, "{}: {}", asked.trace, asked.line);
     }
     let who = program.unwrap_or("the second implementation");
-    println!("sessions: T1 to T12, E1 and E5 as in the papers, by {who}");
+    println!("sessions: T1 to T12, E1, E5 and E6 as in the papers, by {who}");
     Ok(())
 }
 
@@ -106,26 +116,26 @@ fn single_frames(table: &mut Table) {
         &format!("13000100010000{COMMAND}"),
     );
     let rest = [FREE; 7].join(" ");
-    t1.ask("state", &format!("state 0 0 1:r:0:0 {rest} 1"));
+    t1.ask("state", &format!("state 0 0 1:r:0:0 {rest} 1 1"));
     t1.ask("work 4104 4120", &format!("work {COMMAND}"));
 
     let mut t2 = Trace::new(table, "T2");
     t2.feed("0900000100010192486964656e74697479", 0, "");
     let free = [FREE; 8].join(" ");
-    t2.ask("state", &format!("state 0 0 {free} 1"));
+    t2.ask("state", &format!("state 0 0 {free} 1 0"));
 
     let mut t3 = Trace::new(table, "T3");
-    t3.ask(&format!("set 0 0 1:w:1:0 {rest} 1"), "set");
+    t3.ask(&format!("set 0 0 1:w:1:0 {rest} 1 1"), "set");
     t3.feed("02000001000100226869", 0, "050002000100016869");
-    t3.ask("state", &format!("state 0 0 1:r:1:0 {rest} 1"));
+    t3.ask("state", &format!("state 0 0 1:r:1:0 {rest} 1 1"));
 
     let mut t5 = Trace::new(table, "T5");
     t5.feed(&format!("{HEADER}13{COMMAND}"), 18, "");
-    t5.ask("state", &format!("state 18 0 {free} -"));
+    t5.ask("state", &format!("state 18 0 {free} - 0"));
 
     let mut t10 = Trace::new(table, "T10");
     t10.feed("0000000100010111", 24, "");
-    t10.ask("state", &format!("state 24 0 {free} -"));
+    t10.ask("state", &format!("state 24 0 {free} - 0"));
 }
 
 /// T4. The refused call ends on the eighth byte, whatever follows.
@@ -133,10 +143,10 @@ fn lengths(table: &mut Table) {
     let free = [FREE; 8].join(" ");
     let mut allowed = Trace::new(table, "T4");
     allowed.feed("0010000100010111", 0, "");
-    allowed.ask("state", &format!("state 0 8 {free} -"));
+    allowed.ask("state", &format!("state 0 8 {free} - 0"));
     let mut refused = Trace::new(table, "T4");
     refused.ask("feed 5000 0110000100010111a2", "fed 11 8 0 -");
-    refused.ask("state", &format!("state 11 0 {free} -"));
+    refused.ask("state", &format!("state 11 0 {free} - 0"));
 }
 
 /// T6: T1's request, then seven that are collecting, then a ninth.
@@ -156,6 +166,7 @@ fn ninth_request(table: &mut Table) {
         }
         let number = if finished { 0 } else { 20 };
         t6.feed("0000001100010015", number, "");
+        t6.ask("active", "active 0 8");
     }
 }
 
@@ -188,7 +199,7 @@ fn finish_of_collecting(table: &mut Table) {
     t12.feed("0000000100010115", 0, "");
     t12.ask("finish 1", "finished 4");
     let rest = [FREE; 7].join(" ");
-    t12.ask("state", &format!("state 0 0 1:c:0:0 {rest} 1"));
+    t12.ask("state", &format!("state 0 0 1:c:0:0 {rest} 1 1"));
 }
 
 /// T8 to T11, each as the argument `k`.
@@ -249,4 +260,54 @@ fn loosely_written(table: &mut Table) {
     ] {
         e5.ask(&format!("loose {}", with(item)), &format!("loose {mark}"));
     }
+}
+
+/// E6: the count and the row after each call. The last frame is a new one of an active
+/// id, which is refused.
+fn lamp(table: &mut Table) {
+    let record = |id: u8, bit: u8| format!("130001000{id}000{bit}{COMMAND}");
+    let mut e6 = Trace::new(table, "E6");
+    e6.shows(0, "");
+    e6.feed("0000000100010115", 0, "");
+    e6.shows(1, " 1:c");
+    let rest = format!("1000000100010012{COMMAND}");
+    e6.feed(&rest, 0, &record(1, 0));
+    e6.shows(1, " 1:r");
+    let second = format!("1000000300010019{COMMAND}");
+    e6.feed(&second, 0, &record(3, 1));
+    e6.shows(2, " 1:r 3:w");
+    e6.ask("finish 3", "finished 4");
+    e6.shows(2, " 1:r 3:w");
+    e6.feed("0000000300010022", 0, "03000200030001");
+    e6.shows(2, " 1:r 3:r");
+    e6.ask("finish 1", "finished 0");
+    e6.shows(1, " 0:f 3:r");
+    e6.feed("0000000300010015", 19, "");
+    e6.shows(1, " 0:f 3:r");
+    e6.ask("feed 5000 00", "fed 19 0 0 -");
+    e6.ask("finish 3", "finished 19");
+    e6.shows(1, " 0:f 3:r");
+}
+
+/// E6: one request, with each wrong count near the right one, and with the right one.
+fn wrong_counts(table: &mut Table) {
+    let rest = [FREE; 7].join(" ");
+    let kept = " 65535:x";
+    let mut e6 = Trace::new(table, "E6");
+    for count in [0, 2, 9, 255] {
+        let state = format!("0 0 1:r:0:0 {rest} 1 {count}");
+        e6.ask(&format!("set {state}"), "set");
+        e6.ask("feed 5000 00", "fed 3 0 0 -");
+        e6.ask("finish 1", "finished 3");
+        e6.ask("active", "active 3 0");
+        e6.ask("row 7", &format!("row 3{}", kept.repeat(7)));
+        e6.ask("row 9", &format!("row 3{}", kept.repeat(9)));
+        e6.ask("state", &format!("state {state}"));
+    }
+    e6.ask(&format!("set 0 0 1:r:0:0 {rest} 1 1"), "set");
+    e6.ask("row 7", &format!("row 9{}", kept.repeat(7)));
+    let filled = format!("row 0 1:r{}{kept}", " 0:f".repeat(7));
+    e6.ask("row 9", &filled);
+    e6.ask("finish 1", "finished 0");
+    e6.shows(0, "");
 }

@@ -8,7 +8,8 @@ use crate::coverage::Coverage;
 use second::frame::{claimed, HEADER, RECORD};
 use second::receiver::{Receiver, Uncut};
 use second::replay::{from_hex, state_text, Replay};
-use second::state::{held_ways, plain_ways, State, Way, WORK};
+use second::state::{held_ways, plain_ways, State, Way, SLOTS, WORK};
+use std::iter::repeat;
 
 pub struct Watch {
     replay: Replay,
@@ -106,6 +107,7 @@ impl Watch {
                 coverage.finish(self.replay.receiver(), &before, id, answer);
                 self.finished(id, answer)?;
             }
+            "active" | "row" => self.shown(&told, coverage)?,
             "tail" => must(told[1] == "kept", "output past the written count changed")?,
             "argument" | "integer" => {
                 let answer: u8 = number(told[1]);
@@ -162,6 +164,51 @@ impl Watch {
             )?;
         }
         self.as_uncut()
+    }
+
+    /// What the panel shows.
+    fn shown(&self, told: &[&str], coverage: &mut Coverage) -> Result<(), String> {
+        let receiver = self.replay.receiver();
+        let answer = number(told[1]);
+        if told[0] == "row" {
+            coverage.row(receiver, answer, told.len() - 2);
+            return self.row(answer, &told[2..]);
+        }
+        let count = number(told[2]);
+        coverage.active(receiver, answer, count);
+        self.active(answer, count)
+    }
+
+    /// It is refused where finish is refused with 3; what a feed asks beside, and a
+    /// dead number, do not matter.
+    fn active(&self, answer: u8, count: usize) -> Result<(), String> {
+        let state = self.replay.receiver().state();
+        let wanted = match plain_ways(&state)[..] {
+            [] => (0, state.used().count()),
+            _ => (3, 0),
+        };
+        let other = format!("active answers {answer} and {count}, not {wanted:?}");
+        must((answer, count) == wanted, &other)
+    }
+
+    /// The slots' ids and phases, if the row is filled; what is not is as it was.
+    fn row(&self, answer: u8, entries: &[&str]) -> Result<(), String> {
+        let state = self.replay.receiver().state();
+        let number = match (plain_ways(&state).is_empty(), entries.len() < SLOTS) {
+            (false, _) => 3,
+            (true, true) => 9,
+            (true, false) => 0,
+        };
+        must(answer == number, &format!("row {answer}, not {number}"))?;
+        let text = state_text(&state);
+        let slots = text.split(' ').skip(2).filter_map(|slot| {
+            let (slot, _length) = slot.rsplit_once(':')?;
+            Some(slot.rsplit_once(':')?.0)
+        });
+        let filled = slots.take(if number == 0 { SLOTS } else { 0 });
+        let wanted = filled.chain(repeat("65535:x")).take(entries.len());
+        let same = wanted.eq(entries.iter().copied());
+        must(same, &format!("a row with the entries {entries:?}"))
     }
 
     fn as_uncut(&self) -> Result<(), String> {

@@ -1,62 +1,15 @@
 //! One state's bytes, lent to each call, beside the second implementation.
 
 use crate::real::Real;
+use crate::tally::Tally;
+use generate::ROW_LENGTHS;
 use hgrpc::{feed_bytes, finish_bytes, fresh_bytes, Fed, OUTPUT, WORK};
 use second::bytes;
 use second::receiver::Receiver;
 use second::state::State;
-use std::collections::BTreeMap;
+use std::fmt::Display;
 
 const UNWRITTEN: u8 = 0xa5;
-
-/// How often each call gave each number.
-#[derive(Default)]
-pub struct Tally {
-    counts: BTreeMap<(&'static str, u32), u64>,
-}
-
-impl Tally {
-    fn add(&mut self, call: &'static str, number: u32) {
-        *self.counts.entry((call, number)).or_default() += 1;
-    }
-
-    pub fn joined(mut self, other: Tally) -> Tally {
-        for (key, count) in other.counts {
-            *self.counts.entry(key).or_default() += count;
-        }
-        self
-    }
-
-    pub fn calls(&self) -> u64 {
-        self.counts.values().sum()
-    }
-
-    pub fn print(&self) {
-        for call in ["feed", "finish"] {
-            let counts = self.counts.iter().filter(|((of, _), _)| *of == call);
-            let words: Vec<String> = counts
-                .map(|((_, n), count)| format!("{n}: {count}"))
-                .collect();
-            println!("{call:<8}{}", words.join("  "));
-        }
-    }
-
-    /// The numbers that any bytes must bring up.
-    pub fn check(&self) -> Result<(), String> {
-        let feed = [0, 1, 2, 3, 5].into_iter().chain(11..=29);
-        let finish = [0, 3, 4].into_iter().chain(11..=29);
-        let wanted = feed
-            .map(|n| ("feed", n))
-            .chain(finish.map(|n| ("finish", n)));
-        for (call, number) in wanted {
-            let times = self.counts.get(&(call, number)).copied().unwrap_or(0);
-            if times < 10 {
-                return Err(format!("{call} answered {number} only {times} times"));
-            }
-        }
-        Ok(())
-    }
-}
 
 /// What a feed answers and leaves.
 #[derive(PartialEq)]
@@ -88,7 +41,7 @@ impl Calls {
         }
     }
 
-    /// Feed and finish on these bytes. Now and then with a work area or an
+    /// Each call on these bytes. Now and then a feed with a work area or an
     /// output that is too short, or of other lengths, too.
     pub fn hold(&mut self, state: &[u8], work: &[u8]) -> Result<(), String> {
         self.turn += 1;
@@ -100,6 +53,7 @@ impl Calls {
             self.feed(state, work, &input, 3 * OUTPUT)?;
             self.feed(state, &[], &[], 0)?;
         }
+        self.lamp(state, self.turn)?;
         let read = bytes::read(state);
         let id = read.map(|read| read.slots[self.turn % 8].id);
         self.finish(state, id.unwrap_or(self.turn as u16))
@@ -114,6 +68,9 @@ impl Calls {
             self.feed(bytes, &real.work, b"\0", OUTPUT)?;
             self.feed(bytes, &real.work[..WORK - 1], b"\0", OUTPUT)?;
             self.finish(bytes, 1)?;
+            for turn in 0..ROW_LENGTHS {
+                self.lamp(bytes, turn)?;
+            }
             let mut state = bytes.to_vec();
             let number = fresh_bytes(&mut state);
             must(number == 3 && state == bytes, "fresh of another length")?;
@@ -136,16 +93,21 @@ impl Calls {
         let number = left.fed.number;
         self.tally.add("feed", number);
         let defined = matches!(number, 0..=3 | 5 | 11..=29);
-        must(defined, &format!("feed answers {number}"))?;
+        must(defined, format_args!("feed answers {number}"))?;
         let dead = bytes::read(state).is_some_and(|state| state.dead != 0);
         if matches!(number, 1..=3) || dead {
             let kept = left.state == state && left.work == work && left.output == unwritten;
-            must(kept, &format!("feed answers {number} and changes a byte"))?;
+            must(
+                kept,
+                format_args!("feed answers {number} and changes a byte"),
+            )?;
             must(left.fed == nothing(number), "feed refuses and takes bytes")?;
         }
         let wanted = wanted_feed(state, work, input, unwritten);
-        let other = format!("feed answers {:?}, not {:?}", left.fed, wanted.fed);
-        must(left.fed == wanted.fed, &other)?;
+        must(
+            left.fed == wanted.fed,
+            format_args!("feed answers {:?}, not {:?}", left.fed, wanted.fed),
+        )?;
         must(left == wanted, "feed leaves other bytes")
     }
 
@@ -154,11 +116,17 @@ impl Calls {
         let number = finish_bytes(&mut left, id);
         self.tally.add("finish", number);
         let defined = matches!(number, 0 | 3 | 4 | 11..=29);
-        must(defined, &format!("finish answers {number}"))?;
+        must(defined, format_args!("finish answers {number}"))?;
         let kept = number == 0 || left == state;
-        must(kept, &format!("finish answers {number} and changes a byte"))?;
+        must(
+            kept,
+            format_args!("finish answers {number} and changes a byte"),
+        )?;
         let (wanted, bytes) = wanted_finish(state, id);
-        must(number == wanted, &format!("finish {number}, not {wanted}"))?;
+        must(
+            number == wanted,
+            format_args!("finish {number}, not {wanted}"),
+        )?;
         must(left == bytes, "finish leaves other bytes")
     }
 }
@@ -171,7 +139,8 @@ fn nothing(number: u32) -> Fed {
     }
 }
 
-fn must(holds: bool, reason: &str) -> Result<(), String> {
+/// The reason is made only where it is needed, for most calls are as they must be.
+pub fn must(holds: bool, reason: impl Display) -> Result<(), String> {
     match holds {
         true => Ok(()),
         false => Err(reason.to_string()),

@@ -1,5 +1,5 @@
 -- Laws of the definitions, from the bottom up.
-mod Handed
+pub mod Handed
 pub mod SlotLaws
 pub mod ReceiverLaws
 pub mod JudgeLaws

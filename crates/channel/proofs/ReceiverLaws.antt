@@ -20,9 +20,10 @@ use Rattle.session.specs.Session.{Step}
 use Rattle.session.specs.Demand3.{Keeps}
 use Rattle.session.proofs.Laws.{not-zero}
 use Rattle.channel.specs.Receiver.{Receiver, slotAt, placeOf, slotOf, lowestFree, target, commandLength, placed, command, refused, refusedWork, commandSlot, slotsAfter, accepted, judge, put, isWhole, tooLong, counted, takeByte, freed, finishState, finish, viewOf}
-use Rattle.requests.specs.Slots.{inPhase, isId, slotFits, idIn, slotsFit, enter, dataSlot}
+use Rattle.requests.specs.Slots.{inPhase, isId, slotFits, idIn, slotsFit, usedCount, enter, dataSlot}
 use Rattle.requests.specs.Phases.{freeSlot, isPhase, code}
 use Rattle.channel.specs.Channel.{deadFits, plainShape, heldShape, shape, channel}
+use Rattle.channel.specs.Steps.{Counts}
 use Rattle.rules.specs.Rules.{commandByte, recordWith, firstBroken, isCommand, rules}
 use Rattle.rules.proofs.Bools.{and-l, and-r, and-i, and-no, or-r, no-not, no-is, clash, by-cond}
 use Rattle.channel.proofs.SlotLaws.{found, inside, each-fits, set-fits, same-id, of-id}
@@ -36,20 +37,31 @@ pub record Ok (r : Receiver) : Type 0 where
   pub pending : r .state .pending < frameArea
   pub slots : slotsFit (r .state .slots) ≡ true
   pub dead : deadFits (r .state .dead) ≡ true
+  pub active : Counts (r .state)
   pub held : heldShape r ≡ true
+
+abbrev inOrder : Channel → Bool
+inOrder s = slotsFit (s .slots) && eqb (s .active) (usedCount (s .slots))
+
+slots-in-order : (s : Channel) → plainShape s ≡ true → inOrder s ≡ true
+unfolding plainShape
+slots-in-order s p = and-r (ltb (s .pending) frameArea) (inOrder s) (and-l (ltb (s .pending) frameArea && inOrder s) (deadFits (s .dead)) p)
+
+pub plain-counts : (s : Channel) → plainShape s ≡ true → Counts s
+plain-counts s p = eqb-true (s .active) (usedCount (s .slots)) (and-r (slotsFit (s .slots)) (eqb (s .active) (usedCount (s .slots))) (slots-in-order s p))
 
 pub ok-start : (r : Receiver) → leb workArea (length (r .work)) ≡ true → length (r .state .slots) ≡ slotCount → shape r ≡ true → Ok r
 unfolding shape plainShape
 ok-start r a c h =
     let s = r .state in
     let p : plainShape s ≡ true = and-l (plainShape s) (heldShape r) h in
-    let q : (ltb (s .pending) frameArea && slotsFit (s .slots)) ≡ true = and-l (ltb (s .pending) frameArea && slotsFit (s .slots)) (deadFits (s .dead)) p in
     record {
       work = leb-true workArea (length (r .work)) a;
       count = c;
-      pending = ltb-true (s .pending) frameArea (and-l (ltb (s .pending) frameArea) (slotsFit (s .slots)) q);
-      slots = and-r (ltb (s .pending) frameArea) (slotsFit (s .slots)) q;
-      dead = and-r (ltb (s .pending) frameArea && slotsFit (s .slots)) (deadFits (s .dead)) p;
+      pending = ltb-true (s .pending) frameArea (and-l (ltb (s .pending) frameArea) (inOrder s) (and-l (ltb (s .pending) frameArea && inOrder s) (deadFits (s .dead)) p));
+      slots = and-l (slotsFit (s .slots)) (eqb (s .active) (usedCount (s .slots))) (slots-in-order s p);
+      dead = and-r (ltb (s .pending) frameArea && inOrder s) (deadFits (s .dead)) p;
+      active = plain-counts s p;
       held = and-r (plainShape s) (heldShape r) h;
     }
 
@@ -57,8 +69,10 @@ pub ok-plain : (r : Receiver) → Ok r → plainShape (r .state) ≡ true
 unfolding plainShape
 ok-plain r k =
     let s = r .state in
-    and-i (ltb (s .pending) frameArea && slotsFit (s .slots)) (deadFits (s .dead))
-    (and-i (ltb (s .pending) frameArea) (slotsFit (s .slots)) (lt-ltb (s .pending) frameArea (k .pending)) (k .slots)) (k .dead)
+    and-i (ltb (s .pending) frameArea && inOrder s) (deadFits (s .dead))
+    (and-i (ltb (s .pending) frameArea) (inOrder s) (lt-ltb (s .pending) frameArea (k .pending))
+    (and-i (slotsFit (s .slots)) (eqb (s .active) (usedCount (s .slots))) (k .slots) (eq-eqb (s .active) (usedCount (s .slots)) (k .active))))
+    (k .dead)
 
 pub ok-shape : (r : Receiver) → Ok r → shape r ≡ true
 unfolding shape
@@ -145,6 +159,7 @@ module _ (r : Receiver) (b : ℕ) (k : Ok r) (short : tooLong (put r b) ≡ fals
     pending = below (leb 8 (suc n)) refl;
     slots = k .slots;
     dead = k .dead;
+    active = k .active;
     held = held-i (put r b) later;
   }
     where
@@ -214,9 +229,9 @@ module _ (s : Channel) (f : Frame) (w : List ℕ) (wide : workArea ≤ length w)
 
   -- ---- refused
 
-  refused-ok : (n : ℕ) (v : List ℕ) → deadFits n ≡ true → workArea ≤ length v → Ok (refused n s v .next)
+  refused-ok : (n : ℕ) (v : List ℕ) → Counts s → deadFits n ≡ true → workArea ≤ length v → Ok (refused n s v .next)
   unfolding refused heldShape
-  refused-ok n v d l = record { work = l; count = count; pending = omega arith; slots = fit; dead = d; held = refl }
+  refused-ok n v a d l = record { work = l; count = count; pending = omega arith; slots = fit; dead = d; active = a; held = refl }
 
   refused-wide : (n : ℕ) → workArea ≤ length (refusedWork n s f w)
   unfolding refusedWork
@@ -280,7 +295,7 @@ module _ (s : Channel) (f : Frame) (w : List ℕ) (wide : workArea ≤ length w)
 
     pub accepted-ok : s .dead ≡ 0 → Ok (accepted s f w .next)
     unfolding accepted heldShape deadFits
-    accepted-ok d = record { work = accepted-wide; count = slots-count; pending = omega arith; slots = slots-fit; dead = rw d; held = refl }
+    accepted-ok d = record { work = accepted-wide; count = slots-count; pending = omega arith; slots = slots-fit; dead = rw d; active = refl; held = refl }
 
     -- the record is no longer than the longest
     record-bound : length (f .payload) ≤ maxPayload → length (recordWith f (command s f w)) ≤ longestRecord
@@ -386,10 +401,10 @@ module _ (r : Receiver) (b : ℕ) (k : Ok r) where
       go : (n : ℕ) → r .state .dead ≡ n → Fine (takeByte r b)
       go zero d =
           live-case r b Fine d
-          (refused-ok s (frameOf w) w wide (k .count) (k .slots) 11 w eleven wide, omega arith)
+          (refused-ok s (frameOf w) w wide (k .count) (k .slots) 11 w (k .active) eleven wide, omega arith)
           (λ a h. (still-open r b k a h, omega arith))
           (λ a h e. (accepted-ok s (frameOf w) w wide (k .count) (k .slots) e d, record-bound s (frameOf w) w wide (k .count) (k .slots) e (payload-length (whole-length a h))))
-          (λ n a h e. (refused-ok s (frameOf w) w wide (k .count) (k .slots) (suc n) _ (dead-fits s (frameOf w) w wide (k .count) (k .slots) n e) (refused-wide s (frameOf w) w wide (k .count) (k .slots) (suc n)), omega arith))
+          (λ n a h e. (refused-ok s (frameOf w) w wide (k .count) (k .slots) (suc n) _ (k .active) (dead-fits s (frameOf w) w wide (k .count) (k .slots) n e) (refused-wide s (frameOf w) w wide (k .count) (k .slots) (suc n)), omega arith))
       go (suc n) d = rw (d, takeByte) (k, omega arith)
 
 -- a byte that does not close its frame adds no record
@@ -411,6 +426,7 @@ freed-ok r id k = record {
   pending = k .pending;
   slots = set-fits (r .state .slots) (placeOf (r .state) id) freeSlot (k .slots) refl (λ u h. clash refl u);
   dead = k .dead;
+  active = refl;
   held = k .held;
 }
 

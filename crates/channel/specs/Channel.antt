@@ -11,14 +11,14 @@ use Rattle.frame.specs.Limits.{maxPayload, longestRecord, frameArea, workArea}
 use Rattle.session.specs.Session.{Machine, Feed, Reply, feed}
 use Rattle.frame.specs.Header.{lengthOf}
 use Rattle.channel.specs.Receiver.{Receiver, takeByte, finishState, finish, put, isWhole}
-use Rattle.requests.specs.Slots.{slotsFit}
+use Rattle.requests.specs.Slots.{slotsFit, usedCount}
 
 unfoldable pub deadFits : ℕ → Bool
 deadFits n = eqb n 0 || leb 11 n && leb n 29
 
 -- rule 3's plain numbers
 unfoldable pub plainShape : Channel → Bool
-plainShape s = ltb (s .pending) frameArea && slotsFit (s .slots) && deadFits (s .dead)
+plainShape s = ltb (s .pending) frameArea && (slotsFit (s .slots) && eqb (s .active) (usedCount (s .slots))) && deadFits (s .dead)
 
 -- and its held length
 unfoldable pub heldShape : Receiver → Bool

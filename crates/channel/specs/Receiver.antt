@@ -6,7 +6,7 @@ use lib.ListN.{length, take, drop, getD, set, replicate}
 use lib.Dec.{leb, eqb}
 use Rattle.requests.specs.declared.Phase.the-variants.{Free, Running}
 use Rattle.requests.specs.declared.Slot.{Slot}
-use Rattle.requests.specs.Slots.{inPhase, firstSlot, isId, collected, dataSlot}
+use Rattle.requests.specs.Slots.{inPhase, firstSlot, isId, usedCount, collected, dataSlot}
 use Rattle.channel.specs.declared.Channel.{Channel}
 use Rattle.frame.specs.Limits.{slotCount, streamCount, partStart}
 use Rattle.session.specs.Session.{Step, Reply}
@@ -22,21 +22,25 @@ pub record Receiver : Type 0 where
 
 -- ---- the state: a fresh one, and one with a part replaced
 
--- live, nothing pending, all slots free, all streams closed
+-- live, nothing pending, all slots free, all streams closed, no request active
 unfoldable pub freshState : Channel
-freshState = record { dead = 0; pending = 0; slots = replicate slotCount freeSlot; streams = replicate streamCount false }
+freshState = record { dead = 0; pending = 0; slots = replicate slotCount freeSlot; streams = replicate streamCount false; active = 0 }
 
 abbrev pub withDead : Channel → ℕ → Channel
-withDead s n = record { dead = n; pending = s .pending; slots = s .slots; streams = s .streams }
+withDead s n = record { dead = n; pending = s .pending; slots = s .slots; streams = s .streams; active = s .active }
 
 abbrev pub withPending : Channel → ℕ → Channel
-withPending s n = record { dead = s .dead; pending = n; slots = s .slots; streams = s .streams }
+withPending s n = record { dead = s .dead; pending = n; slots = s .slots; streams = s .streams; active = s .active }
 
+abbrev pub withActive : Channel → ℕ → Channel
+withActive s n = record { dead = s .dead; pending = s .pending; slots = s .slots; streams = s .streams; active = n }
+
+-- the count of active requests is that of the used slots
 abbrev pub withSlots : Channel → List Slot → Channel
-withSlots s xs = record { dead = s .dead; pending = s .pending; slots = xs; streams = s .streams }
+withSlots s xs = record { dead = s .dead; pending = s .pending; slots = xs; streams = s .streams; active = usedCount xs }
 
 abbrev pub withStreams : Channel → List Bool → Channel
-withStreams s bs = record { dead = s .dead; pending = s .pending; slots = s .slots; streams = bs }
+withStreams s bs = record { dead = s .dead; pending = s .pending; slots = s .slots; streams = bs; active = s .active }
 
 abbrev pub withSlot : Channel → ℕ → Slot → Channel
 withSlot s i x = withSlots s (set (s .slots) i x)

@@ -12,6 +12,7 @@ use Rattle.frame.specs.Limits.{maxPayload, longestRecord, workArea}
 use Rattle.frame.specs.Header.{lengthOf, headerOf}
 use Rattle.frame.specs.Frame.{framed, frameOf, ends}
 use Rattle.requests.specs.declared.Slot.{Slot}
+use Rattle.requests.specs.Slots.{usedCount}
 use Rattle.rules.specs.declared.Met.{Met}
 use Rattle.rules.specs.Rules.{firstBroken}
 use Rattle.rules.specs.Stages.{metIn, viewed, headRules}
@@ -36,6 +37,10 @@ stepped t = record { number = t .next .state .dead; taken = 1; next = t .next; r
 abbrev pub metOf : Channel → Header → Met
 metOf s h = metIn (s .slots) (streamOpen s (framed h [])) h
 
+-- the count is that of the used slots
+abbrev pub Counts : Channel → Type 0
+Counts s = s .active ≡ usedCount (s .slots)
+
 -- an answer with a state
 abbrev pub answerWith : Channel → ℕ → ℕ → ℕ → Fed
 answerWith s number taken written = record { number = number; taken = taken; written = written; channel = s }
@@ -54,11 +59,12 @@ acceptedWith s h i x n = answerWith (withStreams (withSlot (withPending s 0) i x
 abbrev pub judgedInto : List ℕ → ℕ → Channel → List ℕ → Feed Receiver
 judgedInto out done s w = putFrom out done (stepped (judge s (frameOf w) w))
 
--- a live channel, and a frame that 11 lets pass
+-- a live channel whose count is right, and a frame that 11 lets pass
 pub record HasFrame (s : Channel) (w : List ℕ) : Type 0 where
   pub wide : workArea ≤ length w
   pub short : lengthOf w ≤ maxPayload
   pub live : s .dead ≡ 0
+  pub active : Counts s
 
 -- and its header, what it meets, and that rules 12 to 23 let it pass
 pub record Passed (s : Channel) (h : Header) (m : Met) (w : List ℕ) : Type 0 where

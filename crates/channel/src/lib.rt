@@ -13,15 +13,16 @@ ghost use Rattle.frame.specs.Limits.{maxCommand, slotCount, workArea, partStart
 ghost use Rattle.rules.specs.Rules.{checkOf, commandByte};
 ghost use Rattle.channel.specs.Receiver.{freshState, withSlot};
 ghost use Rattle.channel.specs.Channel.{deadFits, plainShape, finishOf, finished, fedWith};
-ghost use Rattle.channel.specs.Steps.{metOf, answerWith, refusedWith, acceptedWith, judgedInto, HasFrame, Passed};
+ghost use Rattle.channel.specs.Steps.{metOf, Counts, answerWith, refusedWith, acceptedWith, judgedInto, HasFrame, Passed};
 
-// The dead number, 0 while live; how many bytes of the frame under way are in the work area; the slots; and the streams, true for open:
-// stream 2k + 1 at index k.
+// The dead number, 0 while live; how many bytes of the frame under way are in the work area; the slots; the streams, true for open:
+// stream 2k + 1 at index k; and how many requests are active.
 pub struct Channel {
     pub dead: u8,
     pub pending: usize,
     pub slots: [Slot; 8],
     pub streams: [bool; 128],
+    pub active: u8,
 }
 
 // What feed answers: its number, how many bytes of the input it took, how many bytes of the output it wrote, and the state after it.
@@ -52,7 +53,7 @@ fn dead_fits(n: u8) -> bool
 }
 
 impl Channel {
-    // Live, nothing pending, all slots free, all streams closed.
+    // Live, nothing pending, all slots free, all streams closed, no request active.
     pub fn fresh() -> Channel
         ensures { λ r. ⌜ r ≡ freshState ⌝ }
     {
@@ -64,31 +65,36 @@ impl Channel {
             pending: 0,
             slots,
             streams,
+            active: 0,
         }
     }
 
-    // Whether the plain numbers of rule 3 are in order.
-    fn is_plain(self) -> bool
+    // Whether the plain numbers of rule 3 are in order: finish's shape check.
+    pub fn is_plain(self) -> bool
         ensures { λ r. ⌜ r ≡ plainShape self ⌝ }
     {
         if frame::FRAME_AREA <= self.pending {
             return false;
         }
         let slots = self.slots;
-        if !requests::slots_fit(slots) {
+        if !requests::slots_fit(slots, self.active) {
             return false;
         }
         dead_fits(self.dead)
     }
 
-    // The state with another slot at an index; as it is where there is none.
+    // The state with another slot at an index, and the count that follows; as it is where there is none.
     fn with_slot(self, i: usize, x: Slot) -> Channel
+        requires { ⌜ Counts self ⌝ }
         ensures { λ r. ⌜ r ≡ withSlot self i x ⌝ }
     {
         let slots = self.slots;
         let changed = requests::with_slot(slots, i, x);
+        let before = requests::slot_at(slots, i);
+        let after = requests::slot_at(changed, i);
         let mut next = self;
         next.slots = changed;
+        next.active = self.active + after.used_bit() - before.used_bit();
         next
     }
 
@@ -181,6 +187,7 @@ impl Channel {
 
     // The answer to a byte whose frame is accepted, with the slot that it leaves at an index and the length of its record.
     fn accepted(self, h: Header, i: usize, x: Slot, written: usize) -> Fed
+        requires { ⌜ Counts self ⌝ }
         ensures { λ r. ⌜ r ≡ acceptedWith self h i x written ⌝ }
     {
         let stream = (h.stream / 2) as usize;

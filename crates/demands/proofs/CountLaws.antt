@@ -1,5 +1,5 @@
 -- The used slots are as many as the ids that have one. Assumes nothing.
-use Prim.Native.Nat.{ℕ, zero, suc, _+_, _≤_, _<_}
+use Prim.Native.Nat.{ℕ, zero, suc, _+_, _<_}
 use mathlib.Core.Path.{_≡_, refl, sym, ap, _∙_}
 use mathlib.Core.Bool.{Bool, true, false, _||_, not, cond}
 use mathlib.Core.List.{List, [], _∷_}
@@ -10,7 +10,8 @@ use borrow.Author.Tests.{eqb-true, eqb-false, lt-leb}
 use Rattle.requests.specs.declared.Phase.the-variants.{Free}
 use Rattle.requests.specs.declared.Slot.{Slot}
 use Rattle.frame.specs.Records.{bit}
-use Rattle.requests.specs.Slots.{inPhase, isId, firstSlot, idIn, slotsFit}
+use Rattle.requests.specs.Slots.{inPhase, isId, firstSlot, idIn, slotsFit, usedBit, usedCount}
+use Rattle.requests.proofs.UsedLaws.{at-most-all}
 use Rattle.requests.specs.Phases.{freeSlot, isPhase, code}
 use Rattle.demands.specs.History.{howMany}
 use Rattle.rules.proofs.Bools.{fails, clash}
@@ -55,35 +56,30 @@ one-more (suc n) p q k l a b h = go (λ m. one-more n p q k m a b h) (eqb n k) r
 
 -- ---- slots
 
-unfoldable pub usedIn : List Slot → ℕ
-usedIn [] = 0
-usedIn (x ∷ xs) = cond (inPhase Free x) (usedIn xs) (suc (usedIn xs))
-
-few : (xs : List Slot) → usedIn xs ≤ length xs
-unfolding usedIn
-few [] = omega arith
-few (x ∷ xs) = go (inPhase Free x) (few xs)
+used-cons : (x : Slot) (xs : List Slot) → usedCount (x ∷ xs) ≡ cond (inPhase Free x) (usedCount xs) (suc (usedCount xs))
+unfolding usedCount usedBit bit
+used-cons x xs = go (inPhase Free x)
   where
-    go : (t : Bool) → usedIn xs ≤ length xs → cond t (usedIn xs) (suc (usedIn xs)) ≤ suc (length xs)
-    go true ih = omega arith
-    go false ih = omega arith
+    go : (t : Bool) → bit (not t) + usedCount xs ≡ cond t (usedCount xs) (suc (usedCount xs))
+    go true = omega arith
+    go false = omega arith
 
 -- no slot is free exactly where all are used
-pub none-free : (xs : List Slot) → leb (length xs) (firstSlot (inPhase Free) xs) ≡ leb (length xs) (usedIn xs)
-unfolding usedIn firstSlot
+pub none-free : (xs : List Slot) → leb (length xs) (firstSlot (inPhase Free) xs) ≡ leb (length xs) (usedCount xs)
+unfolding usedCount firstSlot
 none-free [] = refl
-none-free (x ∷ xs) = go (inPhase Free x) (none-free xs)
+none-free (x ∷ xs) = rw (used-cons x xs) (go (inPhase Free x) (none-free xs))
   where
-    go : (t : Bool) → leb (length xs) (firstSlot (inPhase Free) xs) ≡ leb (length xs) (usedIn xs) → leb (suc (length xs)) (cond t 0 (suc (firstSlot (inPhase Free) xs))) ≡ leb (suc (length xs)) (cond t (usedIn xs) (suc (usedIn xs)))
-    go true ih = lt-leb (suc (length xs)) 0 (omega arith) ∙ sym (lt-leb (suc (length xs)) (usedIn xs) (omega (arith, few xs)))
-    go false ih = leb·suc-suc (length xs) (firstSlot (inPhase Free) xs) ∙ ih ∙ sym (leb·suc-suc (length xs) (usedIn xs))
+    go : (t : Bool) → leb (length xs) (firstSlot (inPhase Free) xs) ≡ leb (length xs) (usedCount xs) → leb (suc (length xs)) (cond t 0 (suc (firstSlot (inPhase Free) xs))) ≡ leb (suc (length xs)) (cond t (usedCount xs) (suc (usedCount xs)))
+    go true ih = lt-leb (suc (length xs)) 0 (omega arith) ∙ sym (lt-leb (suc (length xs)) (usedCount xs) (omega (arith, at-most-all xs)))
+    go false ih = leb·suc-suc (length xs) (firstSlot (inPhase Free) xs) ∙ ih ∙ sym (leb·suc-suc (length xs) (usedCount xs))
 
-pub used-many : (n : ℕ) (xs : List Slot) → slotsFit xs ≡ true → ((id : ℕ) → idIn id xs ≡ true → id < n) → usedIn xs ≡ howMany n (λ id. idIn id xs)
-unfolding usedIn idIn
+pub used-many : (n : ℕ) (xs : List Slot) → slotsFit xs ≡ true → ((id : ℕ) → idIn id xs ≡ true → id < n) → usedCount xs ≡ howMany n (λ id. idIn id xs)
+unfolding usedCount idIn
 used-many n [] e h = sym (none n)
-used-many n (x ∷ xs) e h = go (inPhase Free x) refl (used-many n xs (tail-fits x xs e) (λ id k. h id (in-tail id x xs k)))
+used-many n (x ∷ xs) e h = rw (used-cons x xs) (go (inPhase Free x) refl (used-many n xs (tail-fits x xs e) (λ id k. h id (in-tail id x xs k))))
   where
-    go : (t : Bool) → inPhase Free x ≡ t → usedIn xs ≡ howMany n (λ id. idIn id xs) → cond t (usedIn xs) (suc (usedIn xs)) ≡ howMany n (λ id. isId id x || idIn id xs)
+    go : (t : Bool) → inPhase Free x ≡ t → usedCount xs ≡ howMany n (λ id. idIn id xs) → cond t (usedCount xs) (suc (usedCount xs)) ≡ howMany n (λ id. isId id x || idIn id xs)
     go true u ih = ih ∙ many-ext n (λ id. idIn id xs) (λ id. isId id x || idIn id xs) (λ id. rw (fails (isId id x) (λ k. clash u (same-id id x k .0))))
     go false u ih =
         ap suc ih

@@ -1,4 +1,5 @@
--- Demand 2: from the fresh state the plain receiver reads as the history alone does. Assumes nothing.
+-- Demand 2: from the fresh state the plain receiver reads as the history alone does; and its count of active requests is the history's.
+-- Assumes nothing.
 use Prim.Native.Nat.{ℕ, zero, suc, _+_, _/_, _≤_, _<_}
 use mathlib.Core.Path.{_≡_, refl, sym, ap, _∙_, subst}
 use mathlib.Core.Bool.{Bool, true, false, _&&_}
@@ -12,37 +13,44 @@ use Rattle.channel.specs.declared.Channel.{Channel}
 use Rattle.requests.specs.declared.Phase.the-variants.{Free, Running}
 use Rattle.frame.specs.Limits.{maxPayload, streamCount, workArea}
 use Rattle.session.specs.Session.{Step, Reply, Call, Event, took, asked, Outcome, fed, answered, uncut, events, feeds, owns, feed, own}
-use Rattle.frame.specs.Frame.{Frame, frameOf}
+use Rattle.frame.specs.Frame.{Frame, frameOf, isNew}
 use Rattle.frame.specs.Header.{lengthOf}
+use Rattle.frame.specs.Records.{bit}
 use Rattle.demands.specs.Request.{idle}
 use Rattle.requests.specs.Phases.{isPhase, code}
 use Rattle.channel.specs.Receiver
 use Rattle.channel.specs.Receiver.{Receiver, freshState, refused, accepted, judge, put, isWhole, tooLong, counted, takeByte, finishState, slotOf, freed, viewOf}
-use Rattle.requests.specs.Slots.{inPhase}
+use Rattle.requests.specs.Slots.{inPhase, usedCount}
 use Rattle.channel.specs.Channel.{channel}
-use Rattle.demands.specs.Demands.{freshOn, Agree, Fed, nil, bytes, ends, Demand2, Demand2Session, NextFrame}
-use Rattle.demands.specs.History.{History, finish, streamOpen, itemsOf, stands, request, isIn, refusalOf, answerTo, isLong, isAll, Past, nothing, stopped, frameAfter, bytesAfter, byteAfter, finishAfter, told, Sent, none, byte, call, given}
-use Rattle.rules.specs.Rules.{firstBroken, rules}
+use Rattle.demands.specs.Demands.{freshOn, Agree, Fed, nil, bytes, ends, Demand2, Demand2Session, ActiveCount, NextFrame}
+use Rattle.demands.specs.History.{History, frame, finish, newFrames, finishes, streamOpen, itemsOf, stands, request, isIn, refusalOf, answerTo, isLong, isAll, Past, nothing, stopped, frameAfter, bytesAfter, byteAfter, finishAfter, told, Sent, none, byte, call, given}
+use Rattle.rules.specs.Rules.{isCommand, firstBroken, rules}
 use Rattle.rules.proofs.Bools.{clash, fails, and-l, and-r}
 use Rattle.session.proofs.Laws as Laws
 use Rattle.channel.proofs.ReceiverLaws.{Ok, take-ok, finish-ok, take-live, keeps}
 use Rattle.demands.proofs.SeenLaws.{never, Finished, ended, stays, finish-cases, fresh-ok, fresh-idle}
-use Rattle.demands.proofs.HistoryLaws.{Says, same-number, same-record, says-after, says-put, says-finish}
+use Rattle.demands.proofs.HistoryLaws.{Says, phase-is, same-number, same-record, says-after, says-put, says-finish}
+use Rattle.demands.proofs.ActiveLaws.{grows, shrinks}
 use Rattle.demands.proofs.CutLaws.{Under, under-none, under-put, same-long, same-whole, same-frame, small-stream, small-request}
+
+-- The count and the finishes accepted are together the new frames accepted.
+abbrev Counted : History → Receiver → Type 0
+Counted h r = r .state .active + finishes h ≡ newFrames h
 
 -- A live receiver holds what the history and the first bytes of the frame under way say.
 pub record Holds (h : History) (bs : List ℕ) (r : Receiver) : Type 0 where
   pub ok : Ok r
   pub says : Says h r
   pub under : Under bs r
+  pub counted : Counted h r
 
 -- A receiver goes with a past: both dead with one number, or live.
 pub data Goes (t : Past) (r : Receiver) : Type 0 where
-  dead : (n : ℕ) → t .number ≡ suc n → r .state .dead ≡ suc n → Goes t r
+  dead : (n : ℕ) → t .number ≡ suc n → r .state .dead ≡ suc n → Counted (t .deeds) r → Goes t r
   live : t .number ≡ 0 → Holds (t .deeds) (t .under) r → Goes t r
 
 pub one-number : (t : Past) (r : Receiver) → Goes t r → r .state .dead ≡ t .number
-one-number t r (dead n a b) = b ∙ sym a
+one-number t r (dead n a b c) = b ∙ sym a
 one-number t r (live a m) = m .says .live ∙ sym a
 
 abbrev pub Steps : Step Past → Step Receiver → Type 0
@@ -119,6 +127,17 @@ module _ (t : Past) (r : Receiver) (b : ℕ) (small : b < 256) (m : Holds (t .de
   frame-number : firstBroken rules f (viewOf (p .state) f (p .work)) ≡ refusalOf h f
   frame-number = same-number h p says f (small-stream bs p u)
 
+  put-counted : Counted h p
+  unfolding put
+  put-counted = m .counted
+
+  frame-counted : firstBroken rules f (viewOf (p .state) f (p .work)) ≡ 0 → Counted (frame f ∷ h) (accepted (p .state) f (p .work) .next)
+  unfolding accepted newFrames finishes put
+  frame-counted z = together (grows (p .state) f (p .work) (says .work) (says .count) (says .slots) z)
+    where
+      together : {n : ℕ} → n ≡ bit (isCommand f && isNew f) + usedCount (r .state .slots) → n + finishes h ≡ bit (isCommand f && isNew f) + newFrames h
+      together k = omega (arith, k, m .counted, m .ok .active)
+
   one-frame : (n : ℕ) → refusalOf h f ≡ n → Ok (judge (p .state) f (p .work) .next) → Steps (frameAfter t f) (judge (p .state) f (p .work))
   unfolding frameAfter judge stopped refused accepted
   one-frame zero q o =
@@ -128,22 +147,23 @@ module _ (t : Past) (r : Receiver) (b : ℕ) (small : b < 256) (m : Holds (t .de
           ok = rw (z, judge) at o;
           says = says-after h p says f (small-stream bs p u) z (small-request bs (u .small));
           under = under-none (accepted (p .state) f (p .work) .next) refl;
+          counted = frame-counted z;
         }),
         same-record h p says f (small-stream bs p u) z,
       )
   one-frame (suc n) q o =
       let z : firstBroken rules f (viewOf (p .state) f (p .work)) ≡ suc n = frame-number ∙ q in
-      rw (q, z, frameAfter, judge) (dead n refl refl, refl)
+      rw (q, z, frameAfter, judge) (dead n refl refl put-counted, refl)
 
   some-bytes : (l a : Bool) → isLong bs ≡ l → tooLong p ≡ l → isAll bs ≡ a → isWhole p ≡ a → Ok (counted p .next) → Steps (bytesAfter t bs) (counted p)
   unfolding bytesAfter counted stopped refused
-  some-bytes true a l1 l2 a1 a2 o = rw (l1, l2, bytesAfter, counted) (dead 10 refl refl, refl)
+  some-bytes true a l1 l2 a1 a2 o = rw (l1, l2, bytesAfter, counted) (dead 10 refl refl put-counted, refl)
   some-bytes false true l1 l2 a1 a2 o =
       let g : frameOf (p .work) ≡ f = same-frame bs p u a1 in
       rw (l1, l2, a1, a2, bytesAfter, counted)
       (subst (λ (x : Frame). Steps (frameAfter t f) (judge (p .state) x (p .work))) (sym g)
       (one-frame (refusalOf h f) refl (subst (λ (x : Frame). Ok (judge (p .state) x (p .work) .next)) g (rw (l2, a2, counted) at o))))
-  some-bytes false false l1 l2 a1 a2 o = rw (l1, l2, a1, a2, bytesAfter, counted) (live refl (record { ok = rw (l2, a2, counted) at o; says = says; under = u }), refl)
+  some-bytes false false l1 l2 a1 a2 o = rw (l1, l2, a1, a2, bytesAfter, counted) (live refl (record { ok = rw (l2, a2, counted) at o; says = says; under = u; counted = put-counted }), refl)
 
   byte-live : t .number ≡ 0 → Steps (byteAfter t b) (takeByte r b)
   byte-live e =
@@ -152,7 +172,7 @@ module _ (t : Past) (r : Receiver) (b : ℕ) (small : b < 256) (m : Holds (t .de
       (some-bytes (isLong bs) (isAll bs) refl (same-long bs p u) refl (same-whole bs p u) (subst (λ (v : Step Receiver). Ok (v .next)) l (take-ok r b (m .ok) .0)))
 
 one-byte : (t : Past) (r : Receiver) (b : ℕ) → b < 256 → Goes t r → Steps (byteAfter t b) (takeByte r b)
-one-byte t r b small (dead n a d) = rw (past-dead t b n a, take-dead r b n d) (dead n a d, refl)
+one-byte t r b small (dead n a d c) = rw (past-dead t b n a, take-dead r b n d) (dead n a d c, refl)
 one-byte t r b small (live a m) = byte-live t r b small m a
 
 -- ---- one finish
@@ -162,12 +182,22 @@ unfolding freed
 finish-keeps r j bs u a (ended e) = record { pending = u .pending; held = u .held; small = u .small }
 finish-keeps r j bs u a (stays e) = u
 
+finish-counted : (h : History) (r : Receiver) (j : ℕ) → Says h r → Ok r → Counted h r → (a : Reply Receiver) → Finished r j a → Counted (finish j ∷ h) (a .next)
+unfolding freed newFrames finishes answerTo bit
+finish-counted h r j m k c a (ended e) = rw (sym (phase-is h r m Running j) ∙ e) (omega (arith, c, k .active, shrinks (r .state) j e))
+finish-counted h r j m k c a (stays e) = rw (sym (phase-is h r m Running j) ∙ e) (omega (arith, c))
+
 one-finish : (t : Past) (r : Receiver) (j : ℕ) → Goes t r → Replies (finishAfter t j) (Receiver.finish r j)
-one-finish t r j (dead n a d) = rw (asked-dead t j n a, finish-dead r j n d) (dead n a d, refl)
+one-finish t r j (dead n a d c) = rw (asked-dead t j n a, finish-dead r j n d) (dead n a d c, refl)
 one-finish t r j (live a m) =
     let g = says-finish (t .deeds) r j (m .ok) (m .says) in
     rw (asked-live t j a) (
-      live refl (record { ok = finish-ok r j (m .ok); says = g .0; under = finish-keeps r j (t .under) (m .under) (Receiver.finish r j) (finish-cases r j (m .says .live)) }),
+      live refl (record {
+        ok = finish-ok r j (m .ok);
+        says = g .0;
+        under = finish-keeps r j (t .under) (m .under) (Receiver.finish r j) (finish-cases r j (m .says .live));
+        counted = finish-counted (t .deeds) r j (m .says) (m .ok) (m .counted) (Receiver.finish r j) (finish-cases r j (m .says .live));
+      }),
       g .1,
     )
 
@@ -202,7 +232,7 @@ unfolding isPhase idle code
 free = refl
 
 fresh-holds : (w : List ℕ) → workArea ≤ length w → Holds [] [] (freshOn w)
-unfolding freshState streamOpen request itemsOf stands
+unfolding freshState streamOpen request itemsOf stands newFrames finishes
 fresh-holds w l =
     let k : Ok (freshOn w) = fresh-ok w l in
     record {
@@ -218,6 +248,7 @@ fresh-holds w l =
         narrow = λ id e. clash free e;
       };
       under = under-none (freshOn w) refl;
+      counted = refl;
     }
 
 -- ---- sessions, and a frame by itself
@@ -266,6 +297,16 @@ pub demand2-session : Demand2Session
 demand2-session w l cs q =
     subst (λ (o : Outcome Receiver). Agree o (told nothing (events channel (freshOn w) cs))) (sym (Laws.session-uncut channel keeps (freshOn w) (fresh-ok w l) cs))
     (demand2 w l (events channel (freshOn w) cs) (fed-sent cs (freshOn w) q))
+
+counted-of : (t : Past) (r : Receiver) → Goes t r → Counted (t .deeds) r
+counted-of t r (dead n a b c) = c
+counted-of t r (live a m) = m .counted
+
+pub active-count : ActiveCount
+active-count w l cs q =
+    let es = events channel (freshOn w) cs in
+    subst (λ (o : Outcome Receiver). Counted (told nothing es .end .deeds) (o .end)) (sym (Laws.session-uncut channel keeps (freshOn w) (fresh-ok w l) cs))
+    (counted-of (told nothing es .end) (uncut channel (freshOn w) es .end) (same w l es (fed-sent cs (freshOn w) q) .end))
 
 pub next-frame : NextFrame
 next-frame w l es q b small e a =

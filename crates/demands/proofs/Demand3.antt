@@ -5,10 +5,10 @@ use mathlib.Core.Bool.{Bool, true, false, cond}
 use Rattle.channel.specs.declared.Channel.{Channel}
 use Rattle.session.specs.Session.{Reply, own, uncut}
 use Rattle.channel.specs.Receiver.{Receiver, finishState, finish}
-use Rattle.demands.specs.Demands.{Sound, Demand3, StaysSound, OwnFinish, RecordsFit}
+use Rattle.demands.specs.Demands.{Sound, Demand3, StaysSound, CountsUsed, OwnFinish, RecordsFit}
 use Rattle.channel.specs.Channel.{plainShape, channel}
 use Rattle.session.proofs.Demand3 as whole
-use Rattle.session.proofs.Laws.{uncut-keeps}
+use Rattle.session.proofs.Laws.{uncut-keeps, session-keeps}
 use Rattle.channel.proofs.ReceiverLaws.{Ok, ok-start, ok-shape, take-ok, keeps}
 
 pub ok : (r : Receiver) → Sound r → Ok r
@@ -22,6 +22,9 @@ stays-sound r s es =
     let q = uncut channel r es .end in
     let k = uncut-keeps channel keeps r (ok r s) es in
     record { roomy = keeps .roomy q k; slots = k .count; shaped = ok-shape q k }
+
+pub counts-used : CountsUsed
+counts-used r s cs = session-keeps channel keeps r (ok r s) cs .active
 
 pub records-fit : RecordsFit
 records-fit r s b = take-ok r b (ok r s) .1

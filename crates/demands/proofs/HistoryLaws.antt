@@ -72,7 +72,7 @@ unfolding isEven
 halves j k a b ne e = let p : j % 2 ≡ 0 → ⊥ = eqb-false (j % 2) 0 a in let q : k % 2 ≡ 0 → ⊥ = eqb-false (k % 2) 0 b in omega (arith, ne, p, q)
 
 module _ (h : History) (r : Receiver) (m : Says h r) where
-  phase-is : (p : Phase) (id : ℕ) → inPhase p (slotOf (r .state) id) ≡ isIn p (request h id)
+  pub phase-is : (p : Phase) (id : ℕ) → inPhase p (slotOf (r .state) id) ≡ isIn p (request h id)
   unfolding isPhase seen
   phase-is p id = ap (isIn p) (m .requests id)
 

@@ -7,5 +7,6 @@ pub mod Written
 pub mod CountLaws
 pub mod HistoryLaws
 pub mod CutLaws
+pub mod ActiveLaws
 pub mod Demand2
 pub mod Traces

@@ -50,6 +50,7 @@ module _ (r : Receiver) (b n : ℕ) (fit : slotsFit (r .state .slots) ≡ true) 
   unfolding refused put slotAt placeOf lowestFree
   refusal = record {
     slots = refl;
+    active = refl;
     streams = refl;
     pending = refl;
     work = is-left s f w n;

@@ -18,7 +18,8 @@ use Rattle.session.specs.Session.{Reply}
 use Rattle.frame.specs.Frame.{Frame, isEven, isType, isNew, isMore, dataFollows, isLast}
 use Rattle.demands.specs.Demands.{freshOn}
 use Rattle.channel.specs.Receiver.{Receiver, freshState, withPending, withSlots, withStreams, slotAt, placeOf, slotOf, lowestFree, target, commandLength, placed, command, commandSlot, slotsAfter, streamsAfter, accepted, put, freed, finishState, finish, viewOf}
-use Rattle.requests.specs.Slots.{inPhase, isId, firstSlot, slotFits, apart, slotsFit, enter, dataSlot}
+use Rattle.frame.specs.Records.{bit}
+use Rattle.requests.specs.Slots.{inPhase, isId, firstSlot, slotFits, apart, slotsFit, usedBit, usedCount, enter, dataSlot}
 use Rattle.requests.specs.Phases.{freeSlot, isPhase, code}
 use Rattle.channel.specs.Channel.{deadFits, plainShape, heldShape, shape}
 use Rattle.demands.specs.Request.{ending, itemOf, Request, idle, moved}
@@ -119,7 +120,7 @@ module _ (s : Channel) (f : Frame) (w : List ℕ) (wide : workArea ≤ length w)
   free-not : (id : ℕ) (x : Slot) → inPhase Free x ≡ true → isId id x ≡ false
   free-not id x h = fails (isId id x) (λ k. clash h (same-id id x k .0))
 
-  collects : isCommand f ≡ true → isNew f ≡ false → inPhase Collecting (slotOf s (f .request)) ≡ true
+  pub collects : isCommand f ≡ true → isNew f ≡ false → inPhase Collecting (slotOf s (f .request)) ≡ true
   unfolding rules viewOf
   collects c n =
       no-not (inPhase Collecting (slotOf s (f .request)))
@@ -390,7 +391,7 @@ finish-own id r k t (ended h) =
 -- ---- the fresh state
 
 pub fresh-ok : (w : List ℕ) → workArea ≤ length w → Ok (freshOn w)
-unfolding freshState shape plainShape slotsFit slotFits apart isPhase code deadFits heldShape
+unfolding freshState shape plainShape slotsFit slotFits apart usedCount usedBit bit isPhase code deadFits heldShape
 fresh-ok w l = ok-start (freshOn w) (le-leb workArea (length w) l) refl refl
 
 pub fresh-idle : (id : ℕ) (w : List ℕ) → seen id (freshOn w) ≡ idle

@@ -102,7 +102,7 @@ wide : leb workArea (length {A = ℕ} (replicate workArea 0)) ≡ true
 wide = le-leb workArea (length {A = ℕ} (replicate workArea 0)) (rw length-replicate (omega arith))
 
 start-ok : (s : Start) → Ok (startOf s)
-unfolding startOf Receiver.freshState Slots.slotsFit Slots.slotFits Slots.apart Slots.idIn Slots.isId Phases.isPhase Phases.code Channel.shape Channel.plainShape Channel.deadFits Channel.heldShape Frame.isEven
+unfolding startOf Receiver.freshState Slots.slotsFit Slots.slotFits Slots.apart Slots.idIn Slots.isId Slots.usedCount Slots.usedBit Records.bit Phases.isPhase Phases.code Channel.shape Channel.plainShape Channel.deadFits Channel.heldShape Frame.isEven
 start-ok fresh = ok-start (startOf fresh) wide refl refl
 start-ok waiting = ok-start (startOf waiting) wide refl refl
 

@@ -1,6 +1,6 @@
 -- What is claimed of the channel: a reader starts here. Demand 3 and the claims below it are proved in proofs/Demand3.antt, what is
--- written in proofs/Written.antt, demand 2 in proofs/Demand2.antt, what a refusal leaves in proofs/Refusal.antt, each claim under its name.
--- These are definitions: they assume nothing.
+-- written in proofs/Written.antt, demand 2 and the count in proofs/Demand2.antt, what a refusal leaves in proofs/Refusal.antt, each claim
+-- under its name. These are definitions: they assume nothing.
 use Prim.Native.Nat.{ℕ, _+_, _≤_, _<_}
 use mathlib.Core.Path.{_≡_}
 use mathlib.Core.Bool.{Bool, true, false, cond, _&&_, _||_}
@@ -10,12 +10,13 @@ use lib.Dec.{leb, eqb}
 use Rattle.buffer.specs.Bytes.{write}
 use Rattle.frame.specs.Limits.{maxCommand, slotCount, longestRecord, workArea, partStart}
 use Rattle.frame.specs.Frame.{Frame, frameOf, isNew}
+use Rattle.requests.specs.Slots.{usedCount}
 use Rattle.session.specs.Session.{Call, feeds, owns, Event, Outcome, own, uncut, session, events}
 use Rattle.session.specs.Demand3.{Whole}
 use Rattle.rules.specs.Rules.{isCommand}
 use Rattle.channel.specs.Receiver.{Receiver, freshState, slotAt, slotOf, placeOf, lowestFree, target, commandLength, placed, put, isWhole, takeByte}
 use Rattle.channel.specs.Channel.{shape, channel, finishOf}
-use Rattle.demands.specs.History.{Past, nothing, told, Sent, isAll, refusalOf, given}
+use Rattle.demands.specs.History.{Past, nothing, told, Sent, isAll, refusalOf, given, newFrames, finishes}
 
 -- ---- demand 3
 
@@ -34,6 +35,10 @@ Demand3 = (r : Receiver) → Sound r → (cs : List Call) → Whole channel r cs
 -- 2 and 3 do not arise later: not in the uncut reading, and so not in a session, which comes to the same receiver
 abbrev pub StaysSound : Type 0
 StaysSound = (r : Receiver) → Sound r → (es : List Event) → Sound (uncut channel r es .end)
+
+-- and after every session the count of active requests is the number of used slots
+abbrev pub CountsUsed : Type 0
+CountsUsed = (r : Receiver) → Sound r → (cs : List Call) → let s = session channel r cs .end .state in s .active ≡ usedCount (s .slots)
 
 -- The session's call of the owner is what `Channel::finish` promises of the state; it leaves every byte of the work area, the freed part's too.
 abbrev pub OwnFinish : Type 0
@@ -111,13 +116,23 @@ NextFrame =
     → (takeByte (uncut channel (freshOn w) es .end) b .next .state .dead ≡ refusalOf (told nothing es .end .deeds) (frameOf (told nothing es .end .under ++ b ∷ [])))
     × (takeByte (uncut channel (freshOn w) es .end) b .adds ≡ given (told nothing es .end .deeds) (frameOf (told nothing es .end .under ++ b ∷ [])))
 
+-- ---- the count of active requests
+
+-- From the fresh state, after every session, one that refused a frame too: the count in the state and the finishes accepted are together the
+-- new frames accepted. A session's first calls are a session, so this holds after each of its calls.
+abbrev pub ActiveCount : Type 0
+ActiveCount =
+    (w : List ℕ) → workArea ≤ length w → (cs : List Call) → Fed cs → let h = told nothing (events channel (freshOn w) cs) .end .deeds in
+    session channel (freshOn w) cs .end .state .active + finishes h ≡ newFrames h
+
 -- ---- what a refusal leaves
 
--- The receiver after a byte that refuses its frame with a number: slots and streams as before the frame, nothing pending. The work area has
+-- The receiver after a byte that refuses its frame with a number: slots, count and streams as before the frame, nothing pending. The work area has
 -- the byte in its place; with 24, 25 or 26 it has the payload too, a new command's at the start of the lowest free slot's part, a further
 -- one's behind the bytes that its slot's part holds.
 pub record Refused (r : Receiver) (b n : ℕ) (q : Receiver) : Type 0 where
   pub slots : q .state .slots ≡ r .state .slots
+  pub active : q .state .active ≡ r .state .active
   pub streams : q .state .streams ≡ r .state .streams
   pub pending : q .state .pending ≡ 0
   pub work : (24 ≤ n → n ≤ 26 → ⊥) → q .work ≡ put r b .work

@@ -9,12 +9,12 @@ use Rattle.requests.specs.declared.Phase.{Phase}
 use Rattle.requests.specs.declared.Phase.the-variants.{Free, Running}
 use Rattle.frame.specs.Limits.{slotCount}
 use Rattle.session.specs.Session.{Step, Reply, Event, took, asked, Outcome, fed, answered}
-use Rattle.frame.specs.Frame.{Frame, frameOf, ends, isType}
+use Rattle.frame.specs.Frame.{Frame, frameOf, ends, isType, isNew}
 use Rattle.frame.specs.Header.{lengthOf}
 use Rattle.frame.specs.Records.{bit}
 use Rattle.demands.specs.Request.{Item, ending, itemOf, Request, idle, moved}
 use Rattle.requests.specs.Phases.{isPhase}
-use Rattle.rules.specs.Rules.{View, overlong, rules, firstBroken, recordWith}
+use Rattle.rules.specs.Rules.{View, isCommand, overlong, rules, firstBroken, recordWith}
 
 -- a history has the latest first
 pub data Deed : Type 0 where
@@ -97,6 +97,18 @@ given h f = elim (refusalOf h f) [ zero ↦ recordFor h f | suc n ↦ [] ]
 
 unfoldable pub answerTo : History → ℕ → ℕ
 answerTo h id = cond (isIn Running (request h id)) 0 4
+
+-- ---- how many new frames a history has, and how many finishes that were accepted
+
+unfoldable pub newFrames : History → ℕ
+newFrames [] = 0
+newFrames (frame f ∷ h) = bit (isCommand f && isNew f) + newFrames h
+newFrames (finish id ∷ h) = newFrames h
+
+unfoldable pub finishes : History → ℕ
+finishes [] = 0
+finishes (frame f ∷ h) = finishes h
+finishes (finish id ∷ h) = bit (eqb (answerTo h id) 0) + finishes h
 
 -- ---- the reading
 

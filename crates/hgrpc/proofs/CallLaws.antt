@@ -14,7 +14,9 @@ use Rattle.channel.specs.Receiver.{freshState}
 use Rattle.channel.specs.Channel.{feedOf, finishOf, fedWith, finished}
 use Rattle.layout.specs.State.{stateLength, encode, isState, stateFrom, stateInto}
 use Rattle.layout.proofs.StateLaws.{state-length, state-none, state-read, state-put}
-use Rattle.hgrpc.specs.Calls.{kept, answer, fedAnswer, freshAnswer, finishAnswer, feedAnswer}
+use Rattle.status.specs.declared.ActiveCount.{ActiveCount}
+use Rattle.status.specs.Row.{activeOf, shown, shownInBytes}
+use Rattle.hgrpc.specs.Calls.{kept, answer, fedAnswer, freshAnswer, finishAnswer, feedAnswer, activeCount, activeAnswer, rowAnswer}
 
 module _ (b : List ℕ) where
   pub fresh-other : (length b ≡ stateLength → ⊥) → kept 3 b ≡ freshAnswer b
@@ -36,6 +38,23 @@ module _ (b : List ℕ) where
     finish-done e s a b′ f g h =
         rw (state-read b s e f)
         (ap (kept (a .number)) (state-put b b′ (a .channel) (state-length b e) h) ∙ ap (λ (x : Finished). kept (x .number) (encode (x .channel))) g)
+
+  pub active-none : isState b ≡ false → activeCount 3 0 ≡ activeAnswer b
+  unfolding activeAnswer
+  active-none e = rw (state-none b e)
+
+  pub active-done : isState b ≡ true → (s : Channel) (a : ActiveCount) → s ≡ stateFrom b → a ≡ activeOf s → a ≡ activeAnswer b
+  unfolding activeAnswer
+  active-done e s a f g = rw (state-read b s e f) g
+
+  module _ (row : List ℕ) where
+    pub row-none : isState b ≡ false → shown 3 row ≡ rowAnswer b row
+    unfolding rowAnswer
+    row-none e = rw (state-none b e)
+
+    pub row-done : isState b ≡ true → (s : Channel) (n : ℕ) (row′ : List ℕ) → s ≡ stateFrom b → shown n row′ ≡ shownInBytes s row → shown n row′ ≡ rowAnswer b row
+    unfolding rowAnswer
+    row-done e s n row′ f g = rw (state-read b s e f) g
 
   module _ (work input out : List ℕ) where
     pub feed-short : length work < workArea → answer 2 0 0 b work out ≡ feedAnswer b work input out

@@ -1,9 +1,9 @@
 -- Sessions over bytes: the calls keep the numbers of a state within their fields, so that the state comes back from its bytes at every call, and
--- a list of calls over bytes comes to what the calls over the state come to. Assumes nothing.
+-- a list of calls over bytes comes to what the calls over the state come to; so does the count. Assumes nothing.
 use Prim.Native.Nat.{ℕ, zero, suc, _≤_, _<_}
 use mathlib.Core.Bool.{Bool, true, false, _&&_, _||_, cond}
 use mathlib.Core.List.{List, [], _∷_}
-use mathlib.Core.Path.{_≡_, refl, sym, ap, _∙_}
+use mathlib.Core.Path.{_≡_, refl, sym, ap, _∙_, subst}
 use native.Mathlib.Omega.{arith}
 use lib.ListN.{length, take, drop, getD, set, length-set, replicate}
 use lib.Dec.{leb, eqb}
@@ -16,24 +16,27 @@ use Rattle.requests.specs.declared.Slot.{Slot}
 use Rattle.requests.specs.declared.Phase.the-variants.{Running}
 use Rattle.requests.specs.Phases.{freeSlot}
 use Rattle.requests.specs.Slots.{inPhase, enter, dataSlot}
-use Rattle.session.specs.Session.{Step, Feed, Reply, Call, feeds, owns, fed, answered, read, feed, own, unchanged, wrote, after, session}
+use Rattle.session.specs.Session.{Step, Feed, Reply, Call, feeds, owns, Outcome, fed, answered, read, feed, own, unchanged, wrote, after, session}
 use Rattle.session.proofs.Laws as laws
 use Rattle.rules.specs.Rules.{isCommand}
 use Rattle.rules.proofs.Bools.{and-r, by-cond}
 use Rattle.channel.specs.declared.Channel.{Channel}
 use Rattle.channel.specs.Receiver.{Receiver, slotAt, slotOf, placeOf, target, placed, commandSlot, slotsAfter, streamsAfter, refused, refusedWork, accepted, put, takeByte, freed, finishState, finish, freshState}
 use Rattle.channel.specs.Channel.{deadFits, finishOf, channel}
+use Rattle.requests.proofs.UsedLaws.{at-most-all}
 use Rattle.channel.proofs.SlotLaws.{each-fits}
-use Rattle.channel.proofs.ReceiverLaws.{Ok, ok-shape, live-case, keeps}
+use Rattle.channel.proofs.ReceiverLaws.{Ok, ok-plain, ok-shape, live-case, keeps}
 use Rattle.demands.specs.History.{idCount}
 use Rattle.demands.specs.Demands.{Fed, nil, bytes, ends, freshOn}
 use Rattle.demands.proofs.Demand3.{ok, own-finish, demand3}
+use Rattle.demands.proofs.Demand2.{active-count}
 use Rattle.demands.proofs.SeenLaws.{fresh-ok, short-slot}
 use Rattle.demands.proofs.CutLaws.{small-request}
 use Rattle.fields.specs.Laws.{AreBytes, AllFit}
+use Rattle.status.specs.Row.{activeOf}
 use Rattle.layout.specs.State.{SlotFits, StateFits, encode}
-use Rattle.hgrpc.specs.Calls.{Kept, kept, Answer, fedAnswer, replied, feedAnswer, finishAnswer}
-use Rattle.hgrpc.specs.Laws.{lent, calls, inBytes, Starts, AllSessions, FreshStarts}
+use Rattle.hgrpc.specs.Calls.{Kept, kept, Answer, fedAnswer, replied, feedAnswer, finishAnswer, activeCount, activeAnswer}
+use Rattle.hgrpc.specs.Laws.{Lent, lent, calls, inBytes, Starts, AllSessions, FreshStarts, ActiveInBytes}
 use Rattle.fields.proofs.FieldLaws.{bytes-drop}
 use Rattle.layout.proofs.StateLaws.{back}
 
@@ -195,6 +198,7 @@ state-fits r o k = record {
   slotCount = o .count;
   slots = slots-in (r .state .slots) (λ i. record { id = k .ids .id i; length = short i });
   streamCount = k .streams;
+  active = omega (arith, o .active, o .count, at-most-all (r .state .slots));
 }
   where
     short : (i : ℕ) → getD (r .state .slots) i freeSlot .length < 65536
@@ -249,6 +253,15 @@ all-sessions r s cs h =
     let e = alike r (ok r (s .sound)) (starts-small r s) cs h in
     record { session = e; uncut = e ∙ ap inBytes (demand3 r (s .sound) cs .outcome) }
 
+session-small : (r : Receiver) → Ok r → Small r → (cs : List Call) → Fed cs → Small (session channel r cs .end)
+unfolding session fed answered finish
+session-small r o k [] nil = k
+session-small r o k (feeds input out ∷ cs) (bytes h more) =
+    session-small (feed channel r input out .next) (feed-ok r input out o) (feed-small r input out (record { byte = h }) k) cs more
+session-small r o k (owns id ∷ cs) (ends more) =
+    subst (λ (a : Reply Receiver). Small (session channel (a .next) cs .end)) (sym (own-is r o k id))
+    (session-small (finish r id .next) (keeps .call r id o) (finish-small r id k) cs more)
+
 free-narrow : (n i : ℕ) → getD (replicate n freeSlot) i freeSlot .id < idCount
 free-narrow zero i = omega arith
 free-narrow (suc n) zero = omega arith
@@ -260,3 +273,19 @@ fresh-starts w l h =
     let k = fresh-ok w l in
     let m : Small (freshOn w) = record { ids = record { id = free-narrow slotCount }; streams = refl; work = h } in
     record { sound = record { roomy = le-leb workArea (length w) l; slots = k .count; shaped = ok-shape (freshOn w) k }; fits = state-fits (freshOn w) k m; bytes = h }
+
+-- the count of a state that the calls came to
+active-is : (r : Receiver) → Ok r → Small r → activeAnswer (encode (r .state)) ≡ activeCount 0 (r .state .active)
+unfolding activeAnswer activeOf
+active-is r o k = rw (back (r .state) (state-fits r o k), ok-plain r o)
+
+pub active-in-bytes : ActiveInBytes
+active-in-bytes w l h cs q =
+    let s = fresh-starts w l h in
+    let o = ok (freshOn w) (s .sound) in
+    let m = starts-small (freshOn w) s in
+    let r = session channel (freshOn w) cs .end in
+    let e : activeAnswer (calls (lent (freshOn w)) cs .end .state) ≡ activeCount 0 (r .state .active) =
+    ap (λ (x : Outcome Lent). activeAnswer (x .end .state)) (all-sessions (freshOn w) s cs q .session)
+    ∙ active-is r (laws.session-keeps channel keeps (freshOn w) o cs) (session-small (freshOn w) o m cs q) in
+    rw e (refl, active-count w l cs q)

@@ -17,6 +17,8 @@ use Rattle.command.specs.declared.Place.the-variants.{Found, NotFound}
 use Rattle.command.specs.Command.{checked, ifCommand}
 use Rattle.command.specs.Lookup.{argumentAt, integerAt, numberNumber, numberValue}
 use Rattle.layout.specs.State.{stateLength, encode, decode}
+use Rattle.status.specs.declared.ActiveCount.{ActiveCount}
+use Rattle.status.specs.Row.{activeOf, Shown, shown, shownInBytes}
 
 -- ---- a value in lent bytes
 
@@ -66,6 +68,17 @@ feedAnswer b work input out =
     cond (ltb (length work) workArea) (answer 2 0 0 b work out)
     (ifValue (decode b) (λ s. fedAnswer (feedOf s work input out))
     (answer 3 0 0 b work out))
+
+-- ---- a screen
+
+abbrev pub activeCount : ℕ → ℕ → ActiveCount
+activeCount n count = record { number = n; count = count }
+
+unfoldable pub activeAnswer : List ℕ → ActiveCount
+activeAnswer b = ifValue (decode b) activeOf (activeCount 3 0)
+
+unfoldable pub rowAnswer : List ℕ → List ℕ → Shown ℕ
+rowAnswer b row = ifValue (decode b) (λ s. shownInBytes s row) (shown 3 row)
 
 -- ---- the commands
 

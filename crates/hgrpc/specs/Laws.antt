@@ -1,6 +1,6 @@
 -- What is proved beside the contracts, each claim under its name: of refusals in proofs/Refusals.antt, of whole sessions in
 -- proofs/Sessions.antt, of a command's parts in proofs/PartLaws.antt. These are definitions: they assume nothing.
-use Prim.Native.Nat.{ℕ, suc, _<_, _≤_}
+use Prim.Native.Nat.{ℕ, suc, _+_, _<_, _≤_}
 use mathlib.Core.Path.{_≡_}
 use mathlib.Core.Bool.{true, false}
 use mathlib.Core.List.{List, [], _∷_}
@@ -13,9 +13,10 @@ use Rattle.channel.specs.Receiver.{Receiver}
 use Rattle.channel.specs.Channel.{shape, channel}
 use Rattle.command.specs.Lookup.{nameOf, argumentAt, partAt}
 use Rattle.demands.specs.Demands.{Sound, Fed, freshOn}
+use Rattle.demands.specs.History.{nothing, told, newFrames, finishes}
 use Rattle.layout.specs.State.{StateFits, encode, decode}
 use Rattle.fields.specs.Laws.{AreBytes}
-use Rattle.hgrpc.specs.Calls.{kept, answer, feedAnswer, finishAnswer, nameAnswer, argumentAnswer}
+use Rattle.hgrpc.specs.Calls.{kept, answer, feedAnswer, finishAnswer, activeAnswer, nameAnswer, argumentAnswer}
 
 -- ---- refusals: no count, and every lent byte as it was
 
@@ -79,6 +80,14 @@ AllSessions = (r : Receiver) → Starts r → (cs : List Call) → Fed cs → Wh
 -- so it does from the bytes that `hgrpc_fresh` makes, on any work area that is long enough
 abbrev pub FreshStarts : Type 0
 FreshStarts = (w : List ℕ) → workArea ≤ length w → AreBytes w → Starts (freshOn w)
+
+-- After every list of calls over bytes that `hgrpc_fresh` made, `hgrpc_active` answers 0 and the count: with the finishes accepted it is the
+-- new frames accepted.
+abbrev pub ActiveInBytes : Type 0
+ActiveInBytes =
+    (w : List ℕ) → workArea ≤ length w → AreBytes w → (cs : List Call) → Fed cs
+    → let a = activeAnswer (calls (lent (freshOn w)) cs .end .state) in let h = told nothing (events channel (freshOn w) cs) .end .deeds in
+    (a .number ≡ 0) × (a .count + finishes h ≡ newFrames h)
 
 -- ---- a command's parts: what a place and a length name is what the lookup in Rattle gives
 

@@ -65,7 +65,8 @@ StateIn s =
     InBytes 1 (s .dead)
     × (InBytes 2 (s .pending)
     × (((length (s .slots) ≡ slotCount) × AllFit SlotIn (s .slots))
-    × ((length (s .streams) ≡ streamCount) × AllFit Any (s .streams))))
+    × (((length (s .streams) ≡ streamCount) × AllFit Any (s .streams))
+    × InBytes 1 (s .active))))
 
 channel-lawful : Lawful channel StateIn
 channel-lawful =
@@ -73,7 +74,8 @@ channel-lawful =
     (both-lawful (number-lawful 1)
     (both-lawful (number-lawful 2)
     (both-lawful (many-lawful slot-lawful slotCount)
-    (many-lawful flag-lawful streamCount))))
+    (both-lawful (many-lawful flag-lawful streamCount)
+    (number-lawful 1)))))
     partsOf
     ofParts
     (λ s. refl)
@@ -86,7 +88,7 @@ all-slots [] h = tt
 all-slots (x ∷ xs) h = ((h .0 .id, (tt, (tt, h .0 .length))), all-slots xs (h .1))
 
 state-in : (s : Channel) → StateFits s → StateIn s
-state-in s h = (h .dead, (h .pending, ((h .slotCount, all-slots (s .slots) (h .slots)), (h .streamCount, all-any (s .streams)))))
+state-in s h = (h .dead, (h .pending, ((h .slotCount, all-slots (s .slots) (h .slots)), ((h .streamCount, all-any (s .streams)), h .active))))
 
 -- ---- which bytes are decoded, and the two laws of the state's bytes
 

@@ -1,6 +1,6 @@
--- A channel's state in bytes: its dead number (1), its pending count (2), eight slots of id (2), phase (1), data bit (1) and length (2), and a
--- byte for each of the 128 streams, 179 in all. Numbers are little-endian, as wide as rule 3 lets them grow; a phase has its code, a bool 1
--- for true. These are definitions: they assume nothing.
+-- A channel's state in bytes: its dead number (1), its pending count (2), eight slots of id (2), phase (1), data bit (1) and length (2), a
+-- byte for each of the 128 streams, and its count of active requests (1), 180 in all. Numbers are little-endian, as wide as rule 3 lets them
+-- grow; a phase has its code, a bool 1 for true. These are definitions: they assume nothing.
 use Prim.Native.Nat.{ℕ, _<_, _^_}
 use mathlib.Core.Bool.{Bool}
 use mathlib.Core.List.{List, [], _∷_}
@@ -41,13 +41,13 @@ slot =
 
 -- a state's parts, in the order of their bytes
 abbrev pub Parts : Type 0
-Parts = ℕ × (ℕ × (List Slot × List Bool))
+Parts = ℕ × (ℕ × (List Slot × (List Bool × ℕ)))
 
 abbrev pub partsOf : Channel → Parts
-partsOf s = (s .dead, (s .pending, (s .slots, s .streams)))
+partsOf s = (s .dead, (s .pending, (s .slots, (s .streams, s .active))))
 
 abbrev pub ofParts : Parts → Channel
-ofParts t = record { dead = t .0; pending = t .1 .0; slots = t .1 .1 .0; streams = t .1 .1 .1 }
+ofParts t = record { dead = t .0; pending = t .1 .0; slots = t .1 .1 .0; streams = t .1 .1 .1 .0; active = t .1 .1 .1 .1 }
 
 abbrev pub channel : Field Channel
 channel =
@@ -55,7 +55,8 @@ channel =
     (both (number 1)
     (both (number 2)
     (both (many slot slotCount)
-    (many flag streamCount))))
+    (both (many flag streamCount)
+    (number 1)))))
     partsOf
     ofParts
 
@@ -71,6 +72,7 @@ pub record StateFits (s : Channel) : Type 0 where
   pub slotCount : length (s .slots) ≡ slotCount
   pub slots : AllFit SlotFits (s .slots)
   pub streamCount : length (s .streams) ≡ streamCount
+  pub active : s .active < 2 ^ 8
 
 -- ---- where the fields stand, and the length of all
 
@@ -83,8 +85,11 @@ slotsAt = 3
 abbrev pub streamsAt : ℕ
 streamsAt = 51
 
+abbrev pub activeAt : ℕ
+activeAt = 179
+
 abbrev pub stateLength : ℕ
-stateLength = 179
+stateLength = 180
 
 -- ---- a state to bytes, and bytes to a state
 

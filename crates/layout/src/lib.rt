@@ -30,7 +30,9 @@ const SLOTS: usize = PENDING + 2;
 
 const STREAMS: usize = SLOTS + 8 * SLOT;
 
-pub const STATE: usize = STREAMS + 128;
+const ACTIVE: usize = STREAMS + 128;
+
+pub const STATE: usize = ACTIVE + 1;
 
 // How many phases there are.
 const PHASES: u8 = 4;
@@ -115,6 +117,7 @@ fn read_state(b: &[u8]) -> Channel
         pending: number_at(b, PENDING) as usize,
         slots,
         streams,
+        active: b[ACTIVE],
     }
 }
 
@@ -234,6 +237,7 @@ fn write_state(b: &mut [u8], s: Channel)
     put_slots(b, slots);
     let streams = s.streams;
     put_streams(b, streams);
+    b[ACTIVE] = s.active;
 }
 
 // Puts a state into its bytes; where there are more or fewer of them, they stay as they are.

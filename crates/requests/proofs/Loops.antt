@@ -9,7 +9,7 @@ use native.Mathlib.Omega.{arith}
 use lib.ListN.{length, drop, getD, drop-of-length-le}
 use lib.Seq.{drop-cons}
 use Rattle.requests.specs.declared.Slot.{Slot}
-use Rattle.requests.specs.Slots.{firstSlot, isId, slotFits, idIn, apart, slotsFit}
+use Rattle.requests.specs.Slots.{firstSlot, isId, slotFits, idIn, apart, slotsFit, usedBit, usedCount}
 
 module _ (p : Slot → Bool) (l : List Slot) where
   -- the first i slots do not pass
@@ -68,3 +68,12 @@ module _ (l : List Slot) (d : Slot) (i : ℕ) where
   pub fits-none : length l ≤ i → slotsFit (drop i l) ≡ true
   unfolding slotsFit
   fits-none h = rw (drop-of-length-le l h)
+
+  -- how many of the slots from index i on are used
+  pub used-more : i < length l → usedCount (drop i l) ≡ usedBit (getD l i d) + usedCount (drop (i + 1) l)
+  unfolding usedCount
+  used-more h = rw (add-one, drop-cons l i d h)
+
+  pub used-none : length l ≤ i → usedCount (drop i l) ≡ 0
+  unfolding usedCount
+  used-none h = rw (drop-of-length-le l h)

@@ -1,11 +1,12 @@
--- Slots: which phase one is in, the first that passes a test, and what rule 3 asks of them.
+-- Slots: which phase one is in, the first that passes a test, what rule 3 asks of them, and how many are used.
 -- These are definitions: they assume nothing.
-use Prim.Native.Nat.{ℕ, suc}
+use Prim.Native.Nat.{ℕ, suc, _+_}
 use mathlib.Core.Bool.{Bool, true, false, cond, _&&_, _||_, not}
 use mathlib.Core.List.{List, [], _∷_}
 use lib.Dec.{leb, eqb}
 use Rattle.frame.specs.Limits.{maxCommand}
 use Rattle.frame.specs.Frame.{Frame, isEven, isMore, dataFollows, isLast}
+use Rattle.frame.specs.Records.{bit}
 use Rattle.requests.specs.declared.Phase.{Phase}
 use Rattle.requests.specs.declared.Phase.the-variants.{Free, Collecting, Waiting, Running}
 use Rattle.requests.specs.declared.Slot.{Slot}
@@ -51,6 +52,14 @@ apart x xs = inPhase Free x || not (idIn (x .id) xs)
 unfoldable pub slotsFit : List Slot → Bool
 slotsFit [] = true
 slotsFit (x ∷ xs) = slotFits x && apart x xs && slotsFit xs
+
+-- how many slots are used: the number of active requests
+unfoldable pub usedBit : Slot → ℕ
+usedBit x = bit (not (inPhase Free x))
+
+unfoldable pub usedCount : List Slot → ℕ
+usedCount [] = 0
+usedCount (x ∷ xs) = usedBit x + usedCount xs
 
 -- ---- what frames do to a slot
 

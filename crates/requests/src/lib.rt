@@ -1,10 +1,12 @@
 // Requests: their phases, and the slots that hold them.
 use frame::Header;
 ghost use mathlib.Core.Path.{_≡_};
+ghost use mathlib.Core.Bool.{_&&_};
+ghost use lib.Dec.{eqb};
 ghost use mathlib.Core.List.{[]};
 ghost use Rattle.frame.specs.Frame.{framed, isEven};
 ghost use Rattle.requests.specs.Phases.{code, freeSlot};
-ghost use Rattle.requests.specs.Slots.{firstSlot, isId, meets, slotFits, idIn, apart, slotsFit, collected, dataSlot};
+ghost use Rattle.requests.specs.Slots.{firstSlot, isId, meets, slotFits, idIn, apart, slotsFit, usedBit, usedCount, collected, dataSlot};
 ghost use lib.ListN.{drop, getD, set};
 
 // A request is collecting (its command isn't whole), waiting for data, or running. A free slot holds none.
@@ -121,6 +123,14 @@ impl Slot {
         !id_in(slots, self.id, from)
     }
 
+    // 1 for a used slot, 0 for a free one.
+    pub fn used_bit(self) -> u8
+        ensures { λ r. ⌜ r ≡ usedBit self ⌝ }
+    {
+        let phase = self.phase;
+        frame::bit(phase_code(phase) != 0)
+    }
+
     // Whether the slot is what is looked for.
     fn meets(self, w: Want) -> bool
         ensures { λ r. ⌜ r ≡ meets w self ⌝ }
@@ -184,10 +194,11 @@ fn id_in(slots: [Slot; 8], id: u16, from: usize) -> bool
     false
 }
 
-// What rule 3 asks of the slots: each fits by itself, and no two used ones hold one id.
-pub fn slots_fit(slots: [Slot; 8]) -> bool
-    ensures { λ r. ⌜ r ≡ slotsFit slots ⌝ }
+// What rule 3 asks of the slots and of their count: each fits by itself, no two used ones hold one id, and so many are used.
+pub fn slots_fit(slots: [Slot; 8], count: u8) -> bool
+    ensures { λ r. ⌜ r ≡ (slotsFit slots && eqb count (usedCount slots)) ⌝ }
 {
+    let mut used: u8 = 0;
     let mut i = 0;
     while i < 8 {
         let s = slots[i];
@@ -198,8 +209,9 @@ pub fn slots_fit(slots: [Slot; 8]) -> bool
         if !s.is_apart(slots, i) {
             return false;
         }
+        used += s.used_bit();
     }
-    true
+    count == used
 }
 
 // The slot of a request after a command frame, with the command's length.

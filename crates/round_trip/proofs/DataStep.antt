@@ -1,7 +1,7 @@
 -- A data frame of the message, read between frames by a receiver whose request waits for it: it breaks no rule, so it is accepted, and
 -- the last makes the request running. Assumes nothing.
 use Prim.Native.Nat.{ℕ, _/_, _≤_}
-use mathlib.Core.Path.{_≡_, refl, sym, ap, _∙_}
+use mathlib.Core.Path.{_≡_, refl, ap, _∙_}
 use mathlib.Core.Bool.{Bool, true, false, cond, _&&_, not}
 use mathlib.Core.List.{List, []}
 use native.Mathlib.Omega.{arith}

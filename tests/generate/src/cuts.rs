@@ -231,16 +231,36 @@ fn look(style: &Style, random: &mut Random, lines: &mut Vec<String>) {
     if !random.percent(style.looks) {
         return;
     }
-    let line = match random.below(10) {
+    let line = match random.below(12) {
         0..=3 => "state".to_string(),
         4..=5 => "tail".to_string(),
         6..=8 => "worksum".to_string(),
+        9 => "active".to_string(),
+        10 => row(random),
         _ => {
             let from = random.pick(&[0, 4090, 4104, 6150, 18_440, 20_480]);
             format!("work {from} {}", from + random.below(9))
         }
     };
     lines.push(line);
+}
+
+/// A row of as many entries as there are slots, or of about as many, or of any number.
+pub fn row(random: &mut Random) -> String {
+    let any = random.between(0, 40);
+    let entries = random.pick(&[8, 8, 8, 8, 7, 7, 9, 9, 0, 1, any]);
+    format!("row {entries}")
+}
+
+/// The bytes of rows, in turn: every length to 30, and some longer ones.
+pub const ROW_LENGTHS: usize = 34;
+pub fn row_length(turn: usize) -> usize {
+    match turn % ROW_LENGTHS {
+        31 => 48,
+        32 => 100,
+        33 => 3000,
+        length => length,
+    }
 }
 
 pub fn feed(output: usize, input: &[u8]) -> String {

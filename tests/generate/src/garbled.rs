@@ -43,7 +43,7 @@ pub fn garbled(seed: u64, index: u64) -> Vec<u8> {
         text.extend(long(random));
         text.push(b'\n');
     }
-    text.extend(b"state\nworksum\nboard\n");
+    text.extend(b"state\nworksum\nboard\nactive\nrow 9\n");
     text
 }
 
@@ -77,6 +77,8 @@ fn number(line: &mut Vec<u8>, random: &mut Random) {
         "+1",
         "255",
         "256",
+        "1000",
+        "1001",
         "65535",
         "65536",
         "100000",
@@ -88,13 +90,19 @@ fn number(line: &mut Vec<u8>, random: &mut Random) {
     *line = words.join(" ").into_bytes();
 }
 
-/// A line `set` with one number that does not fit its field.
+/// A line `set` with one number that does not fit its field. The streams, before
+/// the count, are no number.
 fn too_wide(line: &str, random: &mut Random) -> String {
     let mut words: Vec<String> = line.split(' ').map(String::from).collect();
-    let place = random.between(1, words.len() - 2);
-    let number = match place {
-        1 => random.pick(&["256", "65536"]),
-        _ => random.pick(&["65536", "65537", "4294967296", "18446744073709551616"]),
+    let count = words.len() - 1;
+    let place = match random.below(5) {
+        0 => count,
+        _ => random.between(1, count - 2),
+    };
+    let number = if place == 1 || place == count {
+        random.pick(&["256", "65536"])
+    } else {
+        random.pick(&["65536", "65537", "4294967296", "18446744073709551616"])
     };
     let mut parts: Vec<&str> = words[place].split(':').collect();
     let last = parts.len() - 1;
@@ -108,7 +116,8 @@ fn noise(random: &mut Random) -> Vec<u8> {
     if random.percent(50) {
         return random.bytes(count);
     }
-    let signs = b"0123456789abcdef fresh set feed poke send none state board count loose -:,#";
+    let signs =
+        b"0123456789abcdef fresh set feed poke send none state board count loose active row -:,#";
     (0..count).map(|_| random.pick(signs)).collect()
 }
 

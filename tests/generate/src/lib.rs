@@ -26,6 +26,7 @@ mod starts;
 pub use boards::{board_capture, board_step, BoardStep};
 pub use captures::capture;
 pub use commands::case;
+pub use cuts::{row_length, ROW_LENGTHS};
 pub use garbled::garbled;
 pub use heads::{heads, Head, Place};
 pub use keys::key_command;

@@ -2,10 +2,10 @@
 
 use crate::client::{frame, Client, Phase, Step};
 use crate::commands;
-use crate::cuts::{cut, cut_large, feed, hex, LEAST_OUTPUT};
+use crate::cuts::{cut, cut_large, feed, hex, row, LEAST_OUTPUT};
 use crate::random::Random;
 use crate::refused;
-use crate::starts::{break_shape, heal, seated, Seated, WAYS};
+use crate::starts::{break_count, break_shape, heal, seated, Seated, WAYS};
 
 /// The session of this seed and index. It lends a work area before its first
 /// call, so that nothing of an earlier session stays.
@@ -14,7 +14,8 @@ pub fn session(seed: u64, index: u64) -> Vec<String> {
     let random = &mut Random::new(start);
     let mut lines = vec![format!("# session {index} of seed {seed}")];
     match random.below(100) {
-        0..=59 => fresh_talk(random, &mut lines),
+        0..=56 => fresh_talk(random, &mut lines),
+        57..=59 => wrong_count(random, &mut lines),
         60..=81 => seated_talk(random, &mut lines),
         82..=89 => out_of_shape(random, &mut lines),
         90..=92 => short_area(random, &mut lines),
@@ -24,7 +25,8 @@ pub fn session(seed: u64, index: u64) -> Vec<String> {
         98 => unreadable(random, &mut lines),
         _ => noise(random, &mut lines),
     }
-    lines.extend(["state", "tail", "worksum"].map(String::from));
+    lines.extend(["state", "tail", "worksum", "active"].map(String::from));
+    lines.push(row(random));
     lines
 }
 
@@ -126,9 +128,13 @@ fn out_of_shape(random: &mut Random, lines: &mut Vec<String>) {
         lines.extend(pokes);
         let way = random.below(WAYS);
         lines.extend(break_shape(&mut start, way, random));
-        if random.percent(15) {
-            let more = random.below(WAYS);
-            lines.extend(break_shape(&mut start, more, random));
+        match random.below(20) {
+            0..=2 => {
+                let more = random.below(WAYS);
+                lines.extend(break_shape(&mut start, more, random));
+            }
+            3 => break_count(&mut start, random),
+            _ => {}
         }
         lines.push(start.line());
         calls(&client, random, lines);
@@ -149,6 +155,31 @@ fn out_of_shape(random: &mut Random, lines: &mut Vec<String>) {
     }
 }
 
+/// Calls in states whose count is wrong and that are in shape otherwise; then in the
+/// same state with the right count.
+fn wrong_count(random: &mut Random, lines: &mut Vec<String>) {
+    lend(random, lines);
+    for _ in 0..random.between(1, 3) {
+        let Seated {
+            start,
+            client,
+            pokes,
+        } = seated(random);
+        lines.extend(pokes);
+        for _ in 0..random.between(1, 3) {
+            let mut wrong = start.clone();
+            break_count(&mut wrong, random);
+            lines.push(wrong.line());
+            lines.extend(["active".to_string(), row(random)]);
+            calls(&client, random, lines);
+            let id = client.requests.first().map_or(7, |request| request.id);
+            lines.push(format!("finish {id}"));
+        }
+        lines.push(start.line());
+        talk(client, random, lines);
+    }
+}
+
 /// A few calls that do not expect anything.
 fn calls(client: &Client, random: &mut Random, lines: &mut Vec<String>) {
     for _ in 0..random.between(1, 4) {
@@ -164,8 +195,9 @@ fn calls(client: &Client, random: &mut Random, lines: &mut Vec<String>) {
                 lines.push(format!("finish {id}"));
             }
         }
-        let looks = ["state", "tail", "worksum"];
+        let looks = ["state", "tail", "worksum", "active"];
         lines.push(random.pick(&looks).to_string());
+        lines.push(row(random));
     }
 }
 
@@ -236,7 +268,7 @@ fn lookups(seed: u64, index: u64, random: &mut Random, lines: &mut Vec<String>) 
     lend(random, lines);
 }
 
-const UNREADABLE: [&str; 33] = [
+const UNREADABLE: [&str; 39] = [
     "fresh",
     "fresh 100001",
     "fresh 20488 256",
@@ -255,6 +287,11 @@ const UNREADABLE: [&str; 33] = [
     "finish 65536",
     "finish 1 1",
     "finish -1",
+    "active 1",
+    "row",
+    "row 1001",
+    "row -",
+    "row 8 8",
     "poke 0 1",
     "poke 100000 00",
     "work 9 8",
@@ -266,10 +303,11 @@ const UNREADABLE: [&str; 33] = [
     "arg 00",
     "loose",
     "loose 0g",
-    "set 0 0 0:f:0:0 -",
-    "set 256 0 0:f:0:0 0:f:0:0 0:f:0:0 0:f:0:0 0:f:0:0 0:f:0:0 0:f:0:0 0:f:0:0 -",
-    "set 0 65536 0:f:0:0 0:f:0:0 0:f:0:0 0:f:0:0 0:f:0:0 0:f:0:0 0:f:0:0 0:f:0:0 -",
-    "set 0 0 1:c:0:65536 0:f:0:0 0:f:0:0 0:f:0:0 0:f:0:0 0:f:0:0 0:f:0:0 0:f:0:0 -",
+    "set 0 0 0:f:0:0 - 0",
+    "set 256 0 0:f:0:0 0:f:0:0 0:f:0:0 0:f:0:0 0:f:0:0 0:f:0:0 0:f:0:0 0:f:0:0 - 0",
+    "set 0 65536 0:f:0:0 0:f:0:0 0:f:0:0 0:f:0:0 0:f:0:0 0:f:0:0 0:f:0:0 0:f:0:0 - 0",
+    "set 0 0 1:c:0:65536 0:f:0:0 0:f:0:0 0:f:0:0 0:f:0:0 0:f:0:0 0:f:0:0 0:f:0:0 - 1",
+    "set 0 0 0:f:0:0 0:f:0:0 0:f:0:0 0:f:0:0 0:f:0:0 0:f:0:0 0:f:0:0 0:f:0:0 - 256",
 ];
 
 /// Lines that cannot be read, between lines that can.

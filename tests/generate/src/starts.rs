@@ -26,6 +26,7 @@ pub struct Start {
     pub pending: u64,
     pub slots: [Slot; 8],
     pub open: Vec<u8>,
+    pub count: u8,
 }
 
 /// Where a slot's part of the work area starts.
@@ -44,7 +45,14 @@ impl Start {
             pending: 0,
             slots: [FREE; 8],
             open: Vec::new(),
+            count: 0,
         }
+    }
+
+    /// The count that belongs to the slots.
+    fn right_count(&self) -> u8 {
+        let used = self.slots.iter().filter(|slot| slot.phase != 'f');
+        used.count() as u8
     }
 
     pub fn line(&self) -> String {
@@ -60,10 +68,11 @@ impl Start {
             open.join(",")
         };
         format!(
-            "set {} {} {} {open}",
+            "set {} {} {} {open} {}",
             self.dead,
             self.pending,
-            slots.join(" ")
+            slots.join(" "),
+            self.count
         )
     }
 
@@ -118,6 +127,7 @@ pub fn seated(random: &mut Random) -> Seated {
     if random.percent(8) {
         seated.start.dead = random.between(11, 29) as u8;
     }
+    seated.start.count = seated.start.right_count();
     seated
 }
 
@@ -199,8 +209,26 @@ impl Seated {
 /// The ways to be out of shape.
 pub const WAYS: usize = 14;
 
-/// Puts a state out of shape, at times with a poke that belongs to it.
+/// Puts a state out of shape, at times with a poke that belongs to it. The count is
+/// then that of the slots, so that it is no other way.
 pub fn break_shape(start: &mut Start, way: usize, random: &mut Random) -> Option<String> {
+    let poke = break_one(start, way, random);
+    start.count = start.right_count();
+    poke
+}
+
+/// The count is one too high or one too low, which of 0 is 255; now and then it is
+/// another that is wrong.
+pub fn break_count(start: &mut Start, random: &mut Random) {
+    let by = match random.below(10) {
+        0..=3 => 1,
+        4..=7 => 255,
+        _ => random.between(2, 254) as u8,
+    };
+    start.count = start.right_count().wrapping_add(by);
+}
+
+fn break_one(start: &mut Start, way: usize, random: &mut Random) -> Option<String> {
     match way {
         0 => start.pending = random.pick(&[4104, 4105, 40_000, 65_535]),
         1 => start.dead = random.between(1, 10) as u8,

@@ -4,8 +4,8 @@ use crate::room::{Edge, Room};
 use crate::state;
 use crate::words::{bit, bytes, hex, number, parts};
 use hgrpc::{apply_bytes, first_board_bytes, label_bytes, switch_bytes};
-use hgrpc::{feed_bytes, finish_bytes, fresh_bytes, send, Request};
-use hgrpc::{BOARD, COILS, LABEL_LONGEST, STATE, WORK};
+use hgrpc::{feed_bytes, finish_bytes, fresh_bytes, raw, row_bytes, send, Request};
+use hgrpc::{BOARD, COILS, ENTRY, LABEL_LONGEST, STATE, WORK};
 use second::bytes as state_bytes;
 
 /// A longer line is bad.
@@ -14,6 +14,9 @@ pub const LINE: usize = 300_000;
 const LENT: usize = 100_000;
 /// What an output holds before the call.
 const UNWRITTEN: u8 = 0xa5;
+/// The most entries of a row, and what it holds before the call.
+const ENTRIES: usize = 1_000;
+const UNFILLED: u8 = 0xff;
 
 /// A channel and a board that lines drive. Each buffer has room of its own.
 pub struct Driver {
@@ -26,6 +29,7 @@ pub struct Driver {
     name: Room,
     pairs: Room,
     data: Room,
+    row: Room,
     board: Room,
     /// The length of the work area.
     size: usize,
@@ -49,6 +53,7 @@ impl Driver {
             name: Room::new(LINE / 2, edge),
             pairs: Room::new(LINE / 2, edge),
             data: Room::new(LINE / 2, edge),
+            row: Room::new(ENTRIES * ENTRY, edge),
             board: Room::new(BOARD, edge),
             size: 0,
             asked: 0,
@@ -91,6 +96,8 @@ impl Driver {
             [b"poke", place, spelled] => self.poke(place, spelled),
             [b"feed", length, spelled] => self.feed(length, spelled),
             [b"finish", id] => self.finish(id),
+            [b"active"] => Some(self.active()),
+            [b"row", entries] => self.row(entries),
             [b"send", ref words @ ..] => self.send(words),
             [b"state"] => Some(self.state_words()),
             [b"tail"] => Some(self.tail()),
@@ -169,6 +176,24 @@ impl Driver {
         let id = number(id, 65_535)? as u16;
         let number = finish_bytes(self.state.lend(STATE), id);
         Some(format!("finished {number}"))
+    }
+
+    /// The count is told as the call leaves it, also where the call refuses.
+    fn active(&self) -> String {
+        let mut count = usize::MAX;
+        let state = self.state();
+        // The pointer comes with its own length.
+        let number = unsafe { raw::hgrpc_active(state.as_ptr(), state.len(), &mut count) };
+        format!("active {number} {count}")
+    }
+
+    fn row(&mut self, entries: &[u8]) -> Option<String> {
+        let entries = number(entries, ENTRIES as u64)? as usize;
+        let row = self.row.lend(entries * ENTRY);
+        row.fill(UNFILLED);
+        let number = row_bytes(self.state.lent(STATE), row);
+        let entries: String = row.chunks(ENTRY).map(state::entry).collect();
+        Some(format!("row {number}{entries}"))
     }
 
     fn send(&mut self, words: &[&[u8]]) -> Option<String> {

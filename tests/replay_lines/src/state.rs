@@ -1,5 +1,6 @@
 //! A state as the words of a line: the dead number, the pending count, the
-//! eight slots, and the ids of the open streams.
+//! eight slots, the ids of the open streams, and the count of active requests.
+//! An entry of a row is a word too.
 
 use crate::words::{bit, number, parts};
 use second::bytes::{MOST_LENGTH, MOST_PENDING};
@@ -15,7 +16,7 @@ const LETTERS: [(u8, Phase); 4] = [
 
 /// The state that these words spell, if each number fits its field.
 pub fn read(words: &[&[u8]]) -> Option<State> {
-    let [dead, pending, slots @ .., streams] = words else {
+    let [dead, pending, slots @ .., streams, count] = words else {
         return None;
     };
     let slots: Option<Vec<Slot>> = slots.iter().map(|word| slot(word)).collect();
@@ -24,6 +25,7 @@ pub fn read(words: &[&[u8]]) -> Option<State> {
         pending: number(pending, MOST_PENDING)?,
         slots: slots?.try_into().ok()?,
         open: open(streams)?,
+        count: number(count, 255)? as u8,
     })
 }
 
@@ -71,5 +73,15 @@ pub fn text(state: &State) -> String {
         [] => "-".to_string(),
         _ => open.join(","),
     });
+    words.push(state.count.to_string());
     words.join(" ")
+}
+
+/// The three bytes of an entry, with a space before it. A byte that is no phase is
+/// told as `x`.
+pub fn entry(bytes: &[u8]) -> String {
+    let id = u16::from(bytes[0]) + 256 * u16::from(bytes[1]);
+    let known = LETTERS.get(usize::from(bytes[2]));
+    let letter = known.map_or(b'x', |(letter, _)| *letter);
+    format!(" {id}:{}", char::from(letter))
 }

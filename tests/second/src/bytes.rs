@@ -1,6 +1,6 @@
 //! A state as bytes, as the archive keeps it for its caller: the dead number,
-//! the pending count, the slots (id, phase, data bit, length), and a byte for
-//! each stream. Numbers have their low byte first.
+//! the pending count, the slots (id, phase, data bit, length), a byte for each
+//! stream, and the count of active requests. Numbers have their low byte first.
 
 use crate::state::{Phase, Slot, State, SLOTS};
 
@@ -10,7 +10,10 @@ const LENGTH: usize = 2;
 
 const SLOT: usize = 2 + 1 + 1 + LENGTH;
 const STREAMS: usize = 128;
-pub const STATE: usize = 1 + PENDING + SLOTS * SLOT + STREAMS;
+/// Where the streams and the count stand.
+pub const STREAMS_AT: usize = 1 + PENDING + SLOTS * SLOT;
+pub const COUNT_AT: usize = STREAMS_AT + STREAMS;
+pub const STATE: usize = COUNT_AT + 1;
 
 /// The largest pending count and the largest slot length that the bytes hold.
 pub const MOST_PENDING: u64 = most(PENDING);
@@ -32,6 +35,7 @@ pub fn write(state: &State) -> Vec<u8> {
     }
     let open = |index: usize| state.open.contains(&(2 * index as u8 + 1));
     bytes.extend((0..STREAMS).map(|index| u8::from(open(index))));
+    bytes.push(state.count);
     bytes
 }
 
@@ -46,7 +50,8 @@ pub fn read(bytes: &[u8]) -> Option<State> {
         return None;
     }
     let (plain, rest) = bytes.split_at(1 + PENDING);
-    let (slots, streams) = rest.split_at(SLOTS * SLOT);
+    let (slots, rest) = rest.split_at(SLOTS * SLOT);
+    let (streams, count) = rest.split_at(STREAMS);
     let slots: Option<Vec<Slot>> = slots.chunks(SLOT).map(slot).collect();
     let open: Option<Vec<bool>> = streams.iter().map(flag).collect();
     let ids = (0..).zip(open?).filter(|(_, open)| *open);
@@ -55,6 +60,7 @@ pub fn read(bytes: &[u8]) -> Option<State> {
         pending: little(&plain[1..]),
         slots: slots?.try_into().ok()?,
         open: ids.map(|(index, _)| 2 * index + 1).collect(),
+        count: count[0],
     })
 }
 
@@ -102,18 +108,22 @@ mod tests {
         };
         state.slots[7].phase = Phase::Waiting;
         state.open.extend([1, 255]);
+        state.count = 0x89;
         state
     }
 
     #[test]
     fn layout() {
         let bytes = write(&odd());
-        assert_eq!(bytes.len(), 179);
+        assert_eq!((STREAMS_AT, COUNT_AT, STATE), (51, 179, 180));
+        assert_eq!(bytes.len(), STATE);
         assert_eq!(bytes[..9], [200, 0x34, 0x12, 3, 2, 3, 1, 6, 5]);
         assert_eq!(bytes[9..45], [0; 36]);
         assert_eq!(bytes[45..51], [0, 0, 2, 0, 0, 0]);
-        assert_eq!(bytes[51..179], [&[1][..], &[0; 126], &[1]].concat());
-        assert_eq!(write(&State::fresh()), [0; 179]);
+        let streams = [&[1][..], &[0; 126], &[1]].concat();
+        assert_eq!(bytes[STREAMS_AT..COUNT_AT], streams);
+        assert_eq!(bytes[COUNT_AT..], [0x89]);
+        assert_eq!(write(&State::fresh()), [0; STATE]);
     }
 
     #[test]
@@ -127,6 +137,7 @@ mod tests {
     fn no_state() {
         let good = write(&odd());
         assert_eq!(read(&good[1..]), None);
+        assert_eq!(read(&good[..COUNT_AT]), None);
         assert_eq!(read(&[&good[..], &[0]].concat()), None);
         assert_eq!(read(&[]), None);
         for (place, byte, is_state) in [
@@ -134,9 +145,11 @@ mod tests {
             (5, 4, false),
             (6, 2, false),
             (47, 255, false),
-            (51, 2, false),
-            (178, 0, true),
-            (178, 2, false),
+            (STREAMS_AT, 2, false),
+            (COUNT_AT - 1, 0, true),
+            (COUNT_AT - 1, 2, false),
+            (COUNT_AT, 0, true),
+            (COUNT_AT, 255, true),
             (0, 255, true),
         ] {
             let mut bytes = good.clone();

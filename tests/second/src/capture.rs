@@ -23,8 +23,7 @@ pub fn lines(capture: &[u8], words: impl Fn(u8) -> String) -> String {
 }
 
 /// How a capture ends.
-#[derive(Clone, Copy, Debug, PartialEq, Eq)]
-pub enum End {
+enum End {
     Refused {
         number: u8,
         place: usize,
@@ -37,7 +36,7 @@ pub enum End {
 
 /// The records of a capture, one after another. A request that runs is
 /// finished at once.
-pub fn walk(capture: &[u8], mut each: impl FnMut(&Record)) -> End {
+fn walk(capture: &[u8], mut each: impl FnMut(&Record)) -> End {
     let mut receiver = Receiver::start(State::fresh(), vec![0; WORK]);
     for (place, byte) in capture.iter().enumerate() {
         let mut output = [0; RECORD];
@@ -71,7 +70,8 @@ pub struct Record<'r> {
 }
 
 impl<'r> Record<'r> {
-    fn read(record: &'r [u8]) -> Record<'r> {
+    /// Of the bytes of one record.
+    pub fn read(record: &'r [u8]) -> Record<'r> {
         let number = |place: usize| u16::from_le_bytes([record[place], record[place + 1]]);
         assert_eq!(usize::from(number(0)) + 4, record.len(), "one record");
         Record {
@@ -84,7 +84,7 @@ impl<'r> Record<'r> {
     }
 
     /// A command that no data follows, or the last data.
-    fn is_last(&self) -> bool {
+    pub fn is_last(&self) -> bool {
         self.is_command == (self.bit == 0)
     }
 

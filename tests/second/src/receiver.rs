@@ -132,6 +132,13 @@ impl History {
         active
     }
 
+    /// New frames accepted minus finishes accepted.
+    fn count(&self) -> u8 {
+        let news = self.frames().filter(|frame| frame.is_command(NEW));
+        let finishes = self.events.len() - self.frames().count();
+        (news.count() - finishes) as u8
+    }
+
     fn is_open(&self, stream: u8) -> bool {
         let mut latest_first = self.frames().rev();
         latest_first
@@ -382,6 +389,7 @@ impl Receiver {
             pending: self.under_way.len() as u64,
             slots: self.history.slots(),
             open: self.history.open(),
+            count: self.history.count(),
         }
     }
 
@@ -597,6 +605,7 @@ impl Uncut {
             let whole_record = record(1, frame.request(), third, &own[..length]);
             self.records.extend(whole_record);
         }
+        self.state.count += u8::from(frame.flags() & NEW != 0);
         self.state.slots[seat] = Slot {
             id: frame.request(),
             phase: match (whole, data) {
@@ -650,6 +659,7 @@ impl Uncut {
         match self.slot_of(id) {
             Some(seat) if self.state.slots[seat].phase == Phase::Running => {
                 self.state.slots[seat] = Slot::FREE;
+                self.state.count -= 1;
                 0
             }
             _ => 4,

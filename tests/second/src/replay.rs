@@ -3,6 +3,7 @@
 use crate::board::Board;
 use crate::bytes::{MOST_LENGTH, MOST_PENDING};
 use crate::command;
+use crate::lamp::{self, ENTRY};
 use crate::receiver::Receiver;
 use crate::sender::{send, Request};
 use crate::state::{Phase, Slot, State, SLOTS, WORK};
@@ -14,6 +15,9 @@ const LINE: usize = 300_000;
 const LENT: u64 = 100_000;
 /// What an output holds before the call.
 const UNWRITTEN: u8 = 0xa5;
+/// The most entries of a row, and what each byte of them is before the call.
+const ENTRIES: u64 = 1_000;
+const UNFILLED: u8 = 0xff;
 
 pub struct Replay {
     receiver: Receiver,
@@ -68,6 +72,8 @@ impl Replay {
             ["feed", length, bytes] => self.feed(length, bytes),
             ["send", ref words @ ..] => self.send(words),
             ["finish", id] => self.finish(id),
+            ["active"] => Some(self.active()),
+            ["row", entries] => self.row(entries),
             ["state"] => Some(format!("state {}", state_text(&self.receiver.state()))),
             ["tail"] => Some(self.tail()),
             ["work", from, to] => self.work(from, to),
@@ -152,6 +158,19 @@ impl Replay {
     fn finish(&mut self, id: &str) -> Option<String> {
         let id = number(id, u16::MAX.into())? as u16;
         Some(format!("finished {}", self.receiver.finish(id)))
+    }
+
+    fn active(&self) -> String {
+        let (number, count) = lamp::active(&self.receiver.state());
+        format!("active {number} {count}")
+    }
+
+    fn row(&self, entries: &str) -> Option<String> {
+        let entries = number(entries, ENTRIES)? as usize;
+        let mut row = vec![UNFILLED; entries * ENTRY];
+        let number = lamp::fill(&self.receiver.state(), &mut row);
+        let entries: String = row.chunks(ENTRY).map(entry_text).collect();
+        Some(format!("row {number}{entries}"))
     }
 
     fn first_board(&mut self) -> String {
@@ -273,8 +292,15 @@ pub fn to_hex(bytes: &[u8]) -> String {
     pairs.flatten().map(digit).collect()
 }
 
+/// An entry of a row, with a space before it.
+fn entry_text(entry: &[u8]) -> String {
+    let id = u16::from_le_bytes([entry[0], entry[1]]);
+    let phase = "fcwr".chars().nth(entry[2].into()).unwrap_or('x');
+    format!(" {id}:{phase}")
+}
+
 fn state(words: &[&str]) -> Option<State> {
-    let [dead, pending, slots @ .., open] = words else {
+    let [dead, pending, slots @ .., open, count] = words else {
         return None;
     };
     let slots: Option<Vec<Slot>> = slots.iter().map(|word| slot(word)).collect();
@@ -283,6 +309,7 @@ fn state(words: &[&str]) -> Option<State> {
         pending: number(pending, MOST_PENDING)?,
         slots: <[Slot; SLOTS]>::try_from(slots?).ok()?,
         open: streams(open)?,
+        count: number(count, u8::MAX.into())? as u8,
     })
 }
 
@@ -335,11 +362,12 @@ pub fn state_text(state: &State) -> String {
         text += &format!(" {id}:{phase}:{data}:{length}");
     }
     let open: Vec<String> = state.open.iter().map(u8::to_string).collect();
-    if open.is_empty() {
-        text + " -"
+    let open = if open.is_empty() {
+        "-".to_string()
     } else {
-        text + " " + &open.join(",")
-    }
+        open.join(",")
+    };
+    text + &format!(" {open} {}", state.count)
 }
 
 /// Adler-32. The sums are cut to size after each run of bytes, in which
@@ -381,7 +409,8 @@ mod tests {
         let before = replay.answer(b"state");
         let lines = "x|state |state  | state|fresh|fresh 100001|fresh -|fresh 5 256|fresh 5 0 0|\
             fresh +5|fresh 5 |feed 5|feed 5 0|feed 5 0A|feed 5 0g|feed -1 -|feed 100001 -|feed  5 -|\
-            finish 65536|finish|finish -|finish 1 |poke 20488 00|poke 20489 -|poke 0 0|work 2 1|\
+            finish 65536|finish|finish -|finish 1 |active 0|active |actives|row|row |row -|row -1|row +8|\
+            row 1001|row 8 8|row 0x8|row 18446744073709551616|rows 8|poke 20488 00|poke 20489 -|poke 0 0|work 2 1|\
             work 0 20489|worksum 0|tail 0|check|check 0|name|arg -|int 00|set|set 0 0 -|\u{e9}|state\r|\
             send|send 9 61 0 - 1 1 0 0 1|send 9 61 0 - 1 1 0 0 1 none 0|send 9 61 0 - 1 1 0 0 1 |\
             send 9 61 0 - 1 1 0 2 1 none|send 9 61 0 - 1 1 00 0 1 none|send 9 61 0 - 1 256 0 0 1 none|\
@@ -450,6 +479,39 @@ mod tests {
         }
     }
 
+    /// Rows of a fresh channel, of a busy one, of a dead one, and of one whose count
+    /// is wrong; shorter than eight entries, just as long, and longer.
+    #[test]
+    fn rows() {
+        let mut replay = Replay::default();
+        let slots = "1:c:0:0 0:f:0:0 3:w:1:0 5:r:0:0 0:f:0:0 0:f:0:0 0:f:0:0 65535:r:1:0";
+        let entries = " 1:c 0:f 3:w 5:r 0:f 0:f 0:f 65535:r";
+        let kept = " 65535:x";
+        for (line, answer) in [
+            ("active".to_string(), "active 0 0".to_string()),
+            ("row 8".to_string(), format!("row 0{}", " 0:f".repeat(8))),
+            (format!("set 0 0 {slots} - 4"), "set".to_string()),
+            ("active".to_string(), "active 0 4".to_string()),
+            ("row 0".to_string(), "row 9".to_string()),
+            ("row 7".to_string(), format!("row 9{}", kept.repeat(7))),
+            ("row 8".to_string(), format!("row 0{entries}")),
+            ("row 9".to_string(), format!("row 0{entries}{kept}")),
+            (format!("set 29 0 {slots} - 4"), "set".to_string()),
+            ("active".to_string(), "active 0 4".to_string()),
+            ("row 10".to_string(), format!("row 0{entries}{kept}{kept}")),
+            (format!("set 29 0 {slots} - 5"), "set".to_string()),
+            ("active".to_string(), "active 3 0".to_string()),
+            ("row 0".to_string(), "row 3".to_string()),
+            ("row 8".to_string(), format!("row 3{}", kept.repeat(8))),
+            ("finish 5".to_string(), "finished 3".to_string()),
+            ("feed 5000 -".to_string(), "fed 3 0 0 -".to_string()),
+        ] {
+            assert_eq!(replay.answer(line.as_bytes()), Some(answer), "{line}");
+        }
+        let longest = replay.answer(b"row 1000").expect("an answer");
+        assert_eq!(longest.split(' ').count(), 2 + 1000);
+    }
+
     #[test]
     fn longest_line() {
         let mut replay = Replay::default();
@@ -467,30 +529,44 @@ mod tests {
         let slots = "9:c:1:7 0:f:0:0 3:w:1:0 5:r:1:0 0:f:0:0 7:r:0:0 0:f:0:0 65535:c:0:2048";
         let odd = "0:f:1:9 2:c:1:65535 2:w:0:0 5:r:1:1 5:r:1:0 8:f:0:0 1:f:0:0 65535:c:0:1";
         for state in [
-            format!("0 0 {slots} -"),
-            format!("29 4103 {slots} 1,3,255"),
-            format!("255 65535 {odd} 129"),
+            format!("0 0 {slots} - 5"),
+            format!("0 0 {slots} - 4"),
+            format!("29 4103 {slots} 1,3,255 5"),
+            format!("255 65535 {odd} 129 255"),
         ] {
             let set = replay.answer(format!("set {state}").as_bytes());
             assert_eq!(set.as_deref(), Some("set"));
             let told = replay.answer(b"state");
             assert_eq!(told, Some(format!("state {state}")));
         }
+    }
+
+    /// A number that does not fit its field, or a field too many or too few.
+    #[test]
+    fn bad_states() {
+        let mut replay = Replay::default();
+        let slots = "9:c:1:7 0:f:0:0 3:w:1:0 5:r:1:0 0:f:0:0 7:r:0:0 0:f:0:0 65535:c:0:2048";
+        let with = |from: &str, to: &str| format!("set 0 0 {} - 5", slots.replace(from, to));
         let bad = [
-            format!("set 256 0 {slots} -"),
-            format!("set 0 65536 {slots} -"),
-            format!("set 0 18446744073709551616 {slots} -"),
-            format!("set 0 0 {slots} 0:f:0:0 -"),
-            format!("set 0 0 {slots} 2"),
-            format!("set 0 0 {slots} 3,1"),
-            format!("set 0 0 {slots} 1,1"),
-            format!("set 0 0 {slots} 257"),
-            format!("set 0 0 {slots} 1,"),
-            format!("set 0 0 {slots}"),
-            format!("set 0 0 {} -", slots.replace("9:c", "65537:c")),
-            format!("set 0 0 {} -", slots.replace("c:1:7", "c:1:65536")),
-            format!("set 0 0 {} -", slots.replace("c:1:7", "d:1:7")),
-            format!("set 0 0 {} -", slots.replace("c:1:7", "c:2:7")),
+            format!("set 256 0 {slots} - 5"),
+            format!("set 0 65536 {slots} - 5"),
+            format!("set 0 18446744073709551616 {slots} - 5"),
+            format!("set 0 0 {slots} 0:f:0:0 - 5"),
+            format!("set 0 0 {slots} 2 5"),
+            format!("set 0 0 {slots} 3,1 5"),
+            format!("set 0 0 {slots} 1,1 5"),
+            format!("set 0 0 {slots} 257 5"),
+            format!("set 0 0 {slots} 1, 5"),
+            format!("set 0 0 {slots} -"),
+            format!("set 0 0 {slots} 5"),
+            format!("set 0 0 {slots} - 256"),
+            format!("set 0 0 {slots} - -"),
+            format!("set 0 0 {slots} - "),
+            format!("set 0 0 {slots} - 5 5"),
+            with("9:c", "65537:c"),
+            with("c:1:7", "c:1:65536"),
+            with("c:1:7", "d:1:7"),
+            with("c:1:7", "c:2:7"),
         ];
         for line in bad {
             let answer = replay.answer(line.as_bytes());

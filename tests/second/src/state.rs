@@ -41,6 +41,9 @@ pub struct State {
     pub slots: [Slot; SLOTS],
     /// The open streams; their ids are odd.
     pub open: BTreeSet<u8>,
+    /// How many requests are active. It is right if so many slots are used: an
+    /// accepted new frame takes one, an accepted finish frees one.
+    pub count: u8,
 }
 
 impl State {
@@ -50,7 +53,13 @@ impl State {
             pending: 0,
             slots: [Slot::FREE; SLOTS],
             open: BTreeSet::new(),
+            count: 0,
         }
+    }
+
+    /// The slots that are not free.
+    pub fn used(&self) -> impl Iterator<Item = &Slot> {
+        self.slots.iter().filter(|slot| slot.phase != Phase::Free)
     }
 }
 
@@ -69,12 +78,13 @@ pub enum Way {
     WaitingWithoutData,
     DeadBelow11,
     DeadAbove29,
+    CountWrong,
     HeldAbove,
     PendingPastHeld,
 }
 
 impl Way {
-    pub const ALL: [Way; 14] = [
+    pub const ALL: [Way; 15] = [
         Way::PendingAbove,
         Way::LengthAbove,
         Way::UsedEven,
@@ -87,6 +97,7 @@ impl Way {
         Way::WaitingWithoutData,
         Way::DeadBelow11,
         Way::DeadAbove29,
+        Way::CountWrong,
         Way::HeldAbove,
         Way::PendingPastHeld,
     ];
@@ -105,6 +116,7 @@ impl Way {
             Way::WaitingWithoutData => "waiting slot without its data bit",
             Way::DeadBelow11 => "dead number 1 to 10",
             Way::DeadAbove29 => "dead number above 29",
+            Way::CountWrong => "count wrong",
             Way::HeldAbove => "held length above 4,096",
             Way::PendingPastHeld => "pending not below 8 plus the held length",
         }
@@ -114,21 +126,14 @@ impl Way {
 /// The ways that the plain numbers show, without the work area. Empty if
 /// there is none.
 pub fn plain_ways(state: &State) -> Vec<Way> {
-    let used = |slot: &&Slot| slot.phase != Phase::Free;
-    let ids: BTreeSet<u16> = state
-        .slots
-        .iter()
-        .filter(used)
-        .map(|slot| slot.id)
-        .collect();
+    let ids: BTreeSet<u16> = state.used().map(|slot| slot.id).collect();
+    let used = state.used().count();
     let mut ways = broken(&[
         (state.pending >= FRAME_PLACES as u64, Way::PendingAbove),
         ((1..=10).contains(&state.dead), Way::DeadBelow11),
         (state.dead > 29, Way::DeadAbove29),
-        (
-            ids.len() < state.slots.iter().filter(used).count(),
-            Way::UsedDouble,
-        ),
+        (ids.len() < used, Way::UsedDouble),
+        (usize::from(state.count) != used, Way::CountWrong),
     ]);
     for slot in &state.slots {
         ways.extend(slot_ways(slot));
@@ -191,6 +196,7 @@ mod tests {
             phase: Phase::Running,
             ..Slot::FREE
         };
+        state.count = if phase == Phase::Free { 1 } else { 2 };
         state
     }
 
@@ -238,6 +244,32 @@ mod tests {
                 ..State::fresh()
             };
             assert_eq!(plain_ways(&state).is_empty(), sound, "{pending}");
+        }
+    }
+
+    /// Every count beside none, one, two and eight requests.
+    #[test]
+    fn counts() {
+        let mut full = State::fresh();
+        for (slot, id) in full.slots.iter_mut().zip((1..).step_by(2)) {
+            *slot = Slot {
+                id,
+                phase: Phase::Collecting,
+                ..Slot::FREE
+            };
+        }
+        let one = with(0, Phase::Free, false, 0);
+        let two = with(1, Phase::Waiting, true, 0);
+        for (mut state, right) in [(State::fresh(), 0), (one, 1), (two, 2), (full, 8)] {
+            for count in 0..=255 {
+                state.count = count;
+                let ways: &[Way] = if count == right {
+                    &[]
+                } else {
+                    &[Way::CountWrong]
+                };
+                assert_eq!(plain_ways(&state), ways, "{count}, not {right}");
+            }
         }
     }
 

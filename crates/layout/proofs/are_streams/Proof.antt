@@ -7,7 +7,7 @@ use native.Mathlib.Omega.{arith}
 use lib.ListN.{length, drop}
 use borrow.Author.Needs.{needs}
 use Rattle.fields.specs.Fields.{flag, goodAll}
-use Rattle.layout.specs.State.{streamsAt, stateLength}
+use Rattle.layout.specs.State.{streamsAt, activeAt}
 use Rattle.fields.proofs.Loops.{good-more, good-end}
 use Rattle.fields.proofs.Places.{byte-get}
 use Rattle.layout.proofs.are_streams.Statement.{statement}
@@ -15,7 +15,7 @@ use Rattle.layout.proofs.are_streams.Tie as tie
 
 abbrev Inv-loop : tie.InvT-loop
 Inv-loop b good₀ left₀ at₀ good left at =
-    (at + left ≡ stateLength) × (stateLength ≤ length b) × (goodAll flag 128 (drop streamsAt b) ≡ (good && goodAll flag left (drop at b)))
+    (at + left ≡ activeAt) × (activeAt ≤ length b) × (goodAll flag 128 (drop streamsAt b) ≡ (good && goodAll flag left (drop at b)))
 
 abbrev μ-loop : tie.MeasureT-loop
 μ-loop b good₀ left₀ at₀ good left at = left

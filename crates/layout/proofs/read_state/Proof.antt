@@ -7,9 +7,10 @@ use Rattle.layout.proofs.read_state.Tie as tie
 
 returns : tie.Need-returns
 returns c =
-    let k = c .before .before in
+    let n = c .before in
+    let k = n .before .before in
     let b = k .before .before .before .args .b .now in
-    state-made b _ _ _ (c .number-at .ensures) (k .before .slots-of .ensures) (k .streams-of .ensures)
+    state-made b _ _ _ (n .number-at .ensures) (k .before .slots-of .ensures) (k .streams-of .ensures)
 
 pub read-state-spec : {M : Type 1} → statement M
 read-state-spec =
@@ -19,5 +20,6 @@ read-state-spec =
     (λ c κs. search needs)
     (λ c. search needs)
     (λ c κs. search needs)
+    (λ c. search needs)
     (λ c. search needs)
     returns)

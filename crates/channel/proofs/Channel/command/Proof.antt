@@ -103,6 +103,15 @@ returns c =
     goes-on (a .pre .0) (a .pre .1) (has-eight a) (a .args .out .now) (a .args .done) _ _ (placed i .place .ensures) (i .before .command-slot .ensures) _
     (sym (i .is-more .ensures) ∙ c .before .if1 .taken) (c .accepted .ensures)
 
+accepted-requires : tie.Need-accepted-requires
+accepted-requires c κs = first (c .before) .pre .1 .frame .active
+
+accepted-requires-2 : tie.Need-accepted-requires-2
+accepted-requires-2 c κs =
+    let t = c .before .before .before .before .before .before in
+    let n = t .before .before .before .before .before in
+    first (n .before .before .before .before) .pre .1 .frame .active
+
 returns-2 : tie.Need-returns-2
 returns-2 c =
     let n = c .before .before in
@@ -138,7 +147,7 @@ command-spec =
     place-requires
     (λ c κs. search needs)
     (λ c κs. search needs)
-    (λ c κs. search needs)
+    accepted-requires
     (λ c. search needs)
     returns
     (λ c. omega (arith, fits (first (c .before))))
@@ -160,7 +169,7 @@ command-spec =
     (λ c. search needs)
     (λ c. inside (c .before .before .before .before .before .before .before .before .before .before .before))
     (λ c κs. search needs)
-    (λ c κs. search needs)
+    accepted-requires-2
     (λ c. search needs)
     (λ c. search needs)
     returns-3)

@@ -9,6 +9,7 @@ use Rattle.requests.specs.Phases.{code, freeSlot}
 use Rattle.channel.specs.declared.Channel.{Channel}
 use Rattle.channel.specs.Receiver.{placeOf}
 use Rattle.channel.specs.Channel.{plainShape}
+use Rattle.channel.proofs.ReceiverLaws.{plain-counts}
 use Rattle.channel.proofs.Finish.{finish-dead, frees, stays}
 use Rattle.channel.proofs.Channel.finish.Statement.{statement}
 use Rattle.channel.proofs.Channel.finish.Tie as tie
@@ -46,6 +47,9 @@ module _ (p : tie.After-phase-code) where
   phase : p .phase-code .result ≡ code (getD (state .slots) (p .before .before .find .result) freeSlot .phase)
   phase = p .phase-code .ensures ∙ ap (λ x. code (x .phase)) (p .before .slot-at .ensures)
 
+with-slot-requires : tie.Need-with-slot-requires
+with-slot-requires c κs = plain-counts (state (c .before .before)) (plain (c .before .before))
+
 returns-3 : tie.Need-returns-3
 returns-3 c =
     let i = c .before .before .before in
@@ -71,7 +75,7 @@ finish-spec =
     (λ c κs. search needs)
     (λ c κs. search needs)
     (λ c κs. search needs)
-    (λ c κs. search needs)
+    with-slot-requires
     (λ c κs. search needs)
     returns-3
     (λ c κs. search needs)

@@ -24,7 +24,7 @@ use Rattle.channel.specs.declared.Fed.{Fed}
 use Rattle.requests.specs.Slots.{dataSlot}
 use Rattle.channel.specs.Receiver.{Receiver, slotAt}
 use Rattle.channel.specs.Channel.{fedWith}
-use Rattle.channel.specs.Steps.{judgedInto, Passed, refusedWith, acceptedWith}
+use Rattle.channel.specs.Steps.{Counts, judgedInto, Passed, refusedWith, acceptedWith}
 use Rattle.channel.proofs.Handed.{eight}
 use Rattle.channel.proofs.JudgeLaws.{met-same, passes-same, answers-last, answers-data, answers-settings}
 use Rattle.channel.proofs.Channel.other.Statement.{statement}
@@ -77,6 +77,20 @@ module _ (b : tie.Start) where
   has-eight : length (b .args .self .slots) ≡ slotCount
   has-eight = eight (b .args .self) _ (b .good .0)
 
+  right-count : Counts (b .args .self)
+  right-count = b .pre .1 .frame .active
+
+accepted-requires : tie.Need-accepted-requires
+accepted-requires c κs =
+    let t = c .before .before .before .before .before in
+    let l = t .before .before .before .before .before .before .before .before in
+    right-count (l .before .before .before .before .before)
+
+accepted-requires-2 : tie.Need-accepted-requires-2
+accepted-requires-2 c κs =
+    let l = c .before .before .before .before in
+    right-count (l .before .before .before .before .before)
+
 returns : tie.Need-returns
 returns c =
     let l = c .before .before in
@@ -120,9 +134,9 @@ other-spec =
     (λ c. search needs)
     (λ c. omega (arith, small (c .before .before .before .before .before .before .before .before .before .before .before .before .before .before)))
     (λ c κs. search needs)
-    (λ c κs. search needs)
+    accepted-requires
     (λ c. search needs)
     returns-2
     (λ c κs. search needs)
-    (λ c κs. search needs)
+    accepted-requires-2
     returns-3)

@@ -105,7 +105,7 @@ add-taken c = let t = c .before .before .before in omega (arith, within t, start
 judge-requires : tie.Need-judge-requires Inv-loop μ-loop
 judge-requires c κs =
     let t = c .before .before .before .before .before .before in
-    record { wide = omega (arith, wide (at t), t .take-piece .kept .1 .0); short = comes t .frame (c .before .before .if1 .taken); live = so (at t) .live }
+    record { wide = omega (arith, wide (at t), t .take-piece .kept .1 .0); short = comes t .frame (c .before .before .if1 .taken); live = so (at t) .live; active = so (at t) .ok .active }
 
 -- the piece's frame was judged
 module _ (d : tie.After-judge Inv-loop μ-loop) where
