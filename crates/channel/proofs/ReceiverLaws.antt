@@ -23,7 +23,7 @@ use Rattle.channel.specs.Receiver.{Receiver, slotAt, placeOf, slotOf, lo
 use Rattle.requests.specs.Slots.{inPhase, isId, slotFits, idIn, slotsFit, usedCount, enter, dataSlot}
 use Rattle.requests.specs.Phases.{freeSlot, isPhase, code}
 use Rattle.channel.specs.Channel.{deadFits, plainShape, heldShape, shape, channel}
-use Rattle.channel.specs.Steps.{Counts}
+use Rattle.channel.specs.Steps.{CountRight}
 use Rattle.rules.specs.Rules.{commandByte, recordWith, firstBroken, isCommand, rules}
 use Rattle.rules.proofs.Bools.{and-l, and-r, and-i, and-no, or-r, no-not, no-is, clash, by-cond}
 use Rattle.channel.proofs.SlotLaws.{found, inside, each-fits, set-fits, same-id, of-id}
@@ -37,7 +37,7 @@ pub record Ok (r : Receiver) : Type 0 where
   pub pending : r .state .pending < frameArea
   pub slots : slotsFit (r .state .slots) ≡ true
   pub dead : deadFits (r .state .dead) ≡ true
-  pub active : Counts (r .state)
+  pub active : CountRight (r .state)
   pub held : heldShape r ≡ true
 
 abbrev inOrder : Channel → Bool
@@ -47,7 +47,7 @@ slots-in-order : (s : Channel) → plainShape s ≡ true → inOrder s ≡ true
 unfolding plainShape
 slots-in-order s p = and-r (ltb (s .pending) frameArea) (inOrder s) (and-l (ltb (s .pending) frameArea && inOrder s) (deadFits (s .dead)) p)
 
-pub plain-counts : (s : Channel) → plainShape s ≡ true → Counts s
+pub plain-counts : (s : Channel) → plainShape s ≡ true → CountRight s
 plain-counts s p = eqb-true (s .active) (usedCount (s .slots)) (and-r (slotsFit (s .slots)) (eqb (s .active) (usedCount (s .slots))) (slots-in-order s p))
 
 pub ok-start : (r : Receiver) → leb workArea (length (r .work)) ≡ true → length (r .state .slots) ≡ slotCount → shape r ≡ true → Ok r
@@ -229,7 +229,7 @@ module _ (s : Channel) (f : Frame) (w : List ℕ) (wide : workArea ≤ length w)
 
   -- ---- refused
 
-  refused-ok : (n : ℕ) (v : List ℕ) → Counts s → deadFits n ≡ true → workArea ≤ length v → Ok (refused n s v .next)
+  refused-ok : (n : ℕ) (v : List ℕ) → CountRight s → deadFits n ≡ true → workArea ≤ length v → Ok (refused n s v .next)
   unfolding refused heldShape
   refused-ok n v a d l = record { work = l; count = count; pending = omega arith; slots = fit; dead = d; active = a; held = refl }
 

@@ -38,8 +38,8 @@ abbrev pub metOf : Channel → Header → Met
 metOf s h = metIn (s .slots) (streamOpen s (framed h [])) h
 
 -- the count is that of the used slots
-abbrev pub Counts : Channel → Type 0
-Counts s = s .active ≡ usedCount (s .slots)
+abbrev pub CountRight : Channel → Type 0
+CountRight s = s .active ≡ usedCount (s .slots)
 
 -- an answer with a state
 abbrev pub answerWith : Channel → ℕ → ℕ → ℕ → Fed
@@ -64,7 +64,7 @@ pub record HasFrame (s : Channel) (w : List ℕ) : Type 0 where
   pub wide : workArea ≤ length w
   pub short : lengthOf w ≤ maxPayload
   pub live : s .dead ≡ 0
-  pub active : Counts s
+  pub active : CountRight s
 
 -- and its header, what it meets, and that rules 12 to 23 let it pass
 pub record Passed (s : Channel) (h : Header) (m : Met) (w : List ℕ) : Type 0 where

@@ -13,7 +13,7 @@ ghost use Rattle.frame.specs.Limits.{maxCommand, slotCount, workArea, partStart
 ghost use Rattle.rules.specs.Rules.{checkOf, commandByte};
 ghost use Rattle.channel.specs.Receiver.{freshState, withSlot};
 ghost use Rattle.channel.specs.Channel.{deadFits, plainShape, finishOf, finished, fedWith};
-ghost use Rattle.channel.specs.Steps.{metOf, Counts, answerWith, refusedWith, acceptedWith, judgedInto, HasFrame, Passed};
+ghost use Rattle.channel.specs.Steps.{metOf, CountRight, answerWith, refusedWith, acceptedWith, judgedInto, HasFrame, Passed};
 
 // The dead number, 0 while live; how many bytes of the frame under way are in the work area; the slots; the streams, true for open:
 // stream 2k + 1 at index k; and how many requests are active.
@@ -85,7 +85,7 @@ impl Channel {
 
     // The state with another slot at an index, and the count that follows; as it is where there is none.
     fn with_slot(self, i: usize, x: Slot) -> Channel
-        requires { ⌜ Counts self ⌝ }
+        requires { ⌜ CountRight self ⌝ }
         ensures { λ r. ⌜ r ≡ withSlot self i x ⌝ }
     {
         let slots = self.slots;
@@ -187,7 +187,7 @@ impl Channel {
 
     // The answer to a byte whose frame is accepted, with the slot that it leaves at an index and the length of its record.
     fn accepted(self, h: Header, i: usize, x: Slot, written: usize) -> Fed
-        requires { ⌜ Counts self ⌝ }
+        requires { ⌜ CountRight self ⌝ }
         ensures { λ r. ⌜ r ≡ acceptedWith self h i x written ⌝ }
     {
         let stream = (h.stream / 2) as usize;

@@ -24,7 +24,7 @@ use Rattle.channel.specs.declared.Fed.{Fed}
 use Rattle.requests.specs.Slots.{dataSlot}
 use Rattle.channel.specs.Receiver.{Receiver, slotAt}
 use Rattle.channel.specs.Channel.{fedWith}
-use Rattle.channel.specs.Steps.{Counts, judgedInto, Passed, refusedWith, acceptedWith}
+use Rattle.channel.specs.Steps.{CountRight, judgedInto, Passed, refusedWith, acceptedWith}
 use Rattle.channel.proofs.Handed.{eight}
 use Rattle.channel.proofs.JudgeLaws.{met-same, passes-same, answers-last, answers-data, answers-settings}
 use Rattle.channel.proofs.Channel.other.Statement.{statement}
@@ -77,7 +77,7 @@ module _ (b : tie.Start) where
   has-eight : length (b .args .self .slots) ≡ slotCount
   has-eight = eight (b .args .self) _ (b .good .0)
 
-  right-count : Counts (b .args .self)
+  right-count : CountRight (b .args .self)
   right-count = b .pre .1 .frame .active
 
 accepted-requires : tie.Need-accepted-requires

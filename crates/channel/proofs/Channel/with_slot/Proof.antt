@@ -13,13 +13,13 @@ use Rattle.requests.specs.Slots.{usedBit, usedCount}
 use Rattle.requests.proofs.UsedLaws.{at-most-one, at-most-all, used-set}
 use Rattle.channel.specs.declared.Channel.{Channel}
 use Rattle.channel.specs.Receiver.{withActive, withSlots, withSlot}
-use Rattle.channel.specs.Steps.{Counts}
+use Rattle.channel.specs.Steps.{CountRight}
 use Rattle.channel.proofs.Handed.{eight}
 use Rattle.channel.proofs.Channel.with_slot.Statement.{statement}
 use Rattle.channel.proofs.Channel.with_slot.Tie as tie
 
 -- the slot at the place before and after, and whether they are used
-module _ (s : Channel) (i : ℕ) (x : Slot) (changed : List Slot) (before after : Slot) (b a : ℕ) (counts : Counts s) (changed-is : changed ≡ set (s .slots) i x)
+module _ (s : Channel) (i : ℕ) (x : Slot) (changed : List Slot) (before after : Slot) (b a : ℕ) (counts : CountRight s) (changed-is : changed ≡ set (s .slots) i x)
     (before-is : before ≡ getD (s .slots) i freeSlot) (after-is : after ≡ getD changed i freeSlot) (b-is : b ≡ usedBit before) (a-is : a ≡ usedBit after) where
   balance : usedCount (set (s .slots) i x) + b ≡ s .active + a
   balance = rw (b-is, before-is, a-is, after-is, changed-is, counts) (used-set (s .slots) i x)
@@ -32,7 +32,7 @@ module _ (s : Channel) (i : ℕ) (x : Slot) (changed : List Slot) (before after 
       let e : s .active + a - b ≡ usedCount (set (s .slots) i x) = omega (arith, balance) in
       rw (e, changed-is)
 
-small : (s : Channel) (x : Slot) (a : ℕ) → length (s .slots) ≡ slotCount → Counts s → a ≡ usedBit x → s .active + a ≤ 9
+small : (s : Channel) (x : Slot) (a : ℕ) → length (s .slots) ≡ slotCount → CountRight s → a ≡ usedBit x → s .active + a ≤ 9
 small s x a count counts a-is = omega (arith, at-most-all (s .slots), at-most-one x)
 
 -- the slot put is known to be used or not
