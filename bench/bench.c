@@ -22,7 +22,7 @@
 
 #define ROUNDS 9
 #define LEAST_NS 20e6 /* of one round of one side */
-#define ROOM 4096
+#define ROOM (1u << 12)
 
 struct row {
     const char *what;

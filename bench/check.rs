@@ -5,8 +5,8 @@ const LEVELS: u8 = 8;
 
 /// Up to so many keys are compared pairwise, more are put into a table.
 const FEW: usize = 8;
-/// Twice as many places as a command of 2,048 bytes can have keys.
-const TABLE: usize = 2048;
+/// Twice as many places as a longest command can have keys.
+const TABLE: usize = crate::hgrpc::COMMAND_LONGEST;
 
 /// A key's content: the place where it starts, and its length.
 type Key = (u16, u16);

@@ -3,14 +3,15 @@
 //! state is private and so always in shape: rule 3 is not asked.
 
 use crate::check::check;
+use crate::hgrpc::{COMMAND_LONGEST, FRAME_HEAD, PAYLOAD_LONGEST, RECORD_HEAD, REQUESTS};
 
-const HEADER: usize = 8;
-const PAYLOAD: usize = 4096;
-const COMMAND: usize = 2048;
-pub const RECORD: usize = 7 + PAYLOAD;
+const HEADER: usize = FRAME_HEAD;
+const PAYLOAD: usize = PAYLOAD_LONGEST;
+const COMMAND: usize = COMMAND_LONGEST;
+const SLOTS: usize = REQUESTS;
+pub const RECORD: usize = RECORD_HEAD + PAYLOAD;
 const PARTS: usize = HEADER + PAYLOAD;
 pub const WORK: usize = PARTS + SLOTS * COMMAND;
-const SLOTS: usize = 8;
 
 #[derive(Clone, Copy, PartialEq, Eq)]
 enum Phase {
@@ -281,12 +282,12 @@ impl<'a> Receiver<'a> {
 }
 
 fn put_record(out: &mut [u8], kind: u8, request: u16, third: u8, content: &[u8]) -> usize {
-    let body = (content.len() as u16 + 3).to_le_bytes();
+    let body = (content.len() as u32 + 3).to_le_bytes();
     let id = request.to_le_bytes();
-    let head = [body[0], body[1], kind, 0, id[0], id[1], third];
-    out[..7].copy_from_slice(&head);
-    out[7..][..content.len()].copy_from_slice(content);
-    7 + content.len()
+    out[..4].copy_from_slice(&body);
+    out[4..RECORD_HEAD].copy_from_slice(&[kind, 0, id[0], id[1], third]);
+    out[RECORD_HEAD..][..content.len()].copy_from_slice(content);
+    RECORD_HEAD + content.len()
 }
 
 fn refuse_if(broken: bool, number: u8) -> Result<(), u8> {

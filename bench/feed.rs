@@ -1,14 +1,15 @@
 //! The receivers that are measured, and the inputs for all of them.
 //!
-//!     feed make KIND SIZE                                writes an input with SIZE payload bytes
-//!     feed archive|second|fast|copy|read PIECE OUTPUT    feeds standard input in pieces, with an output of a length
-//!     feed compare SEED COUNT                            holds `fast` to the second receiver
+//!     feed make KIND SIZE                                     writes an input with SIZE payload bytes
+//!     feed archive|second|fast|copy|read PIECE OUTPUT KIND    feeds standard input in pieces, with an output of a length
+//!     feed compare SEED COUNT                                 holds `fast` to the second receiver
+//!     feed sizes                                              prints the lengths of the longest command and record
 //!
 //! `archive` is the channel of the archive hgrpc, as users link it. `second`
 //! is the plain receiver of the second implementation, which takes bytes
 //! singly. `fast` is a receiver by hand. `copy` is the least that any of them
-//! does: each byte is copied to a work area, and on to an output. `read` only
-//! reads, which the others do too.
+//! does: each byte is copied to a work area, and on to an output, in parts as
+//! long as the payloads of its kind. `read` only reads, which the others do too.
 
 mod check;
 mod fast;
@@ -111,7 +112,7 @@ impl Counts {
         };
         self.bytes += records.len() as u64;
         // The third byte of the first record's body says how its command is written.
-        let more = records.len() as u64 + u64::from(records[6]) + u64::from(*last);
+        let more = records.len() as u64 + u64::from(records[8]) + u64::from(*last);
         self.sum = self.sum.wrapping_add(more);
     }
 }
@@ -120,7 +121,7 @@ impl Counts {
 /// at most so many bytes.
 fn pieces(most: usize, mut piece: impl FnMut(&[u8])) -> Result<()> {
     let mut input = stdin().lock();
-    let mut bytes = [0; 65_536];
+    let mut bytes = vec![0; 65_536];
     loop {
         let count = input.read(&mut bytes)?;
         if count == 0 {
@@ -131,7 +132,7 @@ fn pieces(most: usize, mut piece: impl FnMut(&[u8])) -> Result<()> {
 }
 
 fn feed_all(receiver: &mut impl Feed, most: usize, output: usize) -> Result<()> {
-    let mut room = [0; 16 * RECORD];
+    let mut room = vec![0; 16 * RECORD];
     let out = &mut room[..output];
     let mut counts = Counts::default();
     pieces(most, |piece| take(receiver, piece, out, &mut counts))?;
@@ -153,19 +154,24 @@ fn take(receiver: &mut impl Feed, piece: &[u8], out: &mut [u8], counts: &mut Cou
         let records = &out[..fed.written];
         counts.count(records);
         // A command without data, loose or not, and the last data.
-        if let [_, _, 1, 0, low, high, 0 | 2, ..] | [_, _, 2, 0, low, high, 1, ..] = *records {
+        if let [1, 0, low, high, 0 | 2, ..] | [2, 0, low, high, 1, ..] = *behind_length(records) {
             receiver.finish(u16::from_le_bytes([low, high]));
         }
     }
 }
 
+/// The first record behind its length field.
+fn behind_length(records: &[u8]) -> &[u8] {
+    records.get(4..).unwrap_or_default()
+}
+
 /// A piece longer than a payload goes through in parts of that length.
-fn copy(most: usize) -> Result<()> {
-    let mut work = [0; 4096];
-    let mut out = [0; 4096];
+fn copy(most: usize, payload: usize) -> Result<()> {
+    let mut work = vec![0; payload];
+    let mut out = vec![0; payload];
     let mut total = 0;
     pieces(most, |piece| {
-        for part in piece.chunks(work.len()) {
+        for part in piece.chunks(payload) {
             let count = part.len();
             work[..count].copy_from_slice(part);
             let work = black_box(&work);
@@ -237,26 +243,39 @@ fn deep(keys: u16) -> Vec<u8> {
     command
 }
 
-fn make(kind: &str, size: usize) -> Result<()> {
-    let mut out = BufWriter::new(stdout().lock());
-    let payload = match kind {
-        "data" => (0..4096u32).map(|i| (i * 7 + i / 256) as u8).collect(),
+/// Data of so many bytes.
+fn data(length: usize) -> Vec<u8> {
+    (0..length).map(|i| (i * 7 + i / 256) as u8).collect()
+}
+
+/// What a frame of a kind of input carries: data in frames of 4,096, or of as much
+/// as a frame holds; or a command.
+fn payload(kind: &str) -> Vec<u8> {
+    match kind {
+        "data" => data(hgrpc::SEND_SIZE_LONGEST),
+        "large" => data(hgrpc::PAYLOAD_LONGEST),
         "command16" => command(0, &[]),
         "command200" => strings(),
         "integers200" => integers(),
         "deep513" => deep(513),
         "deep571" => deep(571),
         _ => usage(),
-    };
+    }
+}
+
+fn make(kind: &str, size: usize) -> Result<()> {
+    let mut out = BufWriter::new(stdout().lock());
+    let payload = payload(kind);
     let count = size / payload.len();
-    if kind == "data" {
+    let is_data = matches!(kind, "data" | "large");
+    if is_data {
         frame(&mut out, true, 0x19, &command(0, &[]))?;
     }
     for index in 1..=count {
-        let (first, last) = match kind {
-            "data" if index == count => (false, 0x22),
-            "data" => (false, 0x21),
-            _ => (index == 1, 0x11),
+        let (first, last) = match is_data {
+            true if index == count => (false, 0x22),
+            true => (false, 0x21),
+            false => (index == 1, 0x11),
         };
         frame(&mut out, first, last, &payload)?;
     }
@@ -273,7 +292,7 @@ fn compare(seed: u64, count: u64) {
             loose: second::command::loose(&command),
         };
         // The receiver's check is asked about no longer ones.
-        if command.len() <= 2048 && check(&command) != wanted {
+        if command.len() <= hgrpc::COMMAND_LONGEST && check(&command) != wanted {
             fail(&format!(
                 "command {index} of seed {seed} is checked otherwise"
             ));
@@ -342,7 +361,7 @@ fn fail(reason: &str) -> ! {
 }
 
 fn usage() -> ! {
-    fail("make KIND SIZE, archive|second|fast|copy|read PIECE OUTPUT or compare SEED COUNT")
+    fail("make KIND SIZE, archive|second|fast|copy|read PIECE OUTPUT KIND, compare SEED COUNT or sizes")
 }
 
 fn main() -> Result<()> {
@@ -351,26 +370,30 @@ fn main() -> Result<()> {
     let number = |word: &str| word.parse().unwrap_or_else(|_| usage());
     match words[..] {
         ["make", kind, size] => make(kind, number(size)),
-        ["archive", most, output] => feed_all(
+        ["archive", most, output, _] => feed_all(
             &mut Channel {
                 state: hgrpc::State::fresh(),
-                work: &mut [0; WORK],
+                work: &mut vec![0; WORK],
             },
             number(most),
             number(output),
         ),
-        ["second", most, output] => feed_all(
+        ["second", most, output, _] => feed_all(
             &mut Uncut::start(State::fresh(), vec![0; WORK]),
             number(most),
             number(output),
         ),
-        ["fast", most, output] => feed_all(
+        ["fast", most, output, _] => feed_all(
             &mut fast::Receiver::new(&mut [0; WORK]),
             number(most),
             number(output),
         ),
-        ["copy", most, _] => copy(number(most)),
-        ["read", most, _] => read(number(most)),
+        ["copy", most, _, kind] => copy(number(most), payload(kind).len()),
+        ["read", most, _, _] => read(number(most)),
+        ["sizes"] => {
+            println!("{} {RECORD}", hgrpc::COMMAND_LONGEST);
+            Ok(())
+        }
         ["compare", seed, count] => {
             compare(number(seed) as u64, number(count) as u64);
             Ok(())

@@ -22,9 +22,10 @@
 #include <unistd.h>
 
 #include "command.h"
+#include "hgrpc.h"
 #include "../tests/second.h"
 
-#define LENGTH 2048
+#define LENGTH HGRPC_COMMAND_LONGEST
 #define ROOM (1u << 20)
 
 static uint8_t bytes[ROOM];
@@ -706,7 +707,7 @@ static int limited_row(size_t size)
 
 static int long_rows(void)
 {
-    static const size_t sizes[] = {2048, 4096, 8192, 16384, 65536, 262144, 1048576};
+    static const size_t sizes[] = {LENGTH, 2 * LENGTH, 4 * LENGTH, 16384, 65536, 262144, 1048576};
     int ended = 0;
     printf("%7s  %6s  %10s  %10s  %6s\n", "bytes", "keys", "check ms", "second ms", "ratio");
     for (size_t i = 0; i < sizeof sizes / sizeof *sizes && ended == 0; i++)

@@ -8,6 +8,7 @@
 #[path = "../bindings/hgrpc.rs"]
 mod hgrpc;
 
+use hgrpc::SEND_SIZE_LONGEST as LARGEST;
 use second::sender;
 use std::hint::black_box;
 use std::process::exit;
@@ -66,11 +67,11 @@ fn rows() -> [Row; 6] {
     let strings = [string(b"\x44k000"), string(b"\x44k101")].concat();
     let long = [&b"\x44k000\x59\x07\xb2"[..], &[b'v'; 1970]].concat();
     [
-        Row::new("64 KB of data, frames of 4,096", b"", 0, 4096, 65_536),
+        Row::new("64 KB of data, frames of 4,096", b"", 0, LARGEST, 65_536),
         Row::new("64 KB of data, frames of 256", b"", 0, 256, 65_536),
-        Row::new("command of 16 bytes", b"", 0, 4096, 0),
-        Row::new("command of 200 bytes, 2 byte strings", &strings, 2, 4096, 0),
-        Row::new("command of 1,994 bytes, 1 byte string", &long, 1, 4096, 0),
+        Row::new("command of 16 bytes", b"", 0, LARGEST, 0),
+        Row::new("command of 200 bytes, 2 byte strings", &strings, 2, LARGEST, 0),
+        Row::new("command of 1,994 bytes, 1 byte string", &long, 1, LARGEST, 0),
         Row::new("the same in frames of 64", &long, 1, 64, 0),
     ]
 }
@@ -104,8 +105,8 @@ fn second(row: &Row, out: &mut [u8]) -> usize {
 /// instruction, of which each turn is counted as one, so that its count says
 /// nothing.
 fn copy(row: &Row, out: &mut [u8]) -> usize {
-    let parts = row.frames.chunks(hgrpc::PAYLOAD_LONGEST);
-    for (place, part) in out.chunks_mut(hgrpc::PAYLOAD_LONGEST).zip(parts) {
+    let parts = row.frames.chunks(LARGEST);
+    for (place, part) in out.chunks_mut(LARGEST).zip(parts) {
         place[..part.len()].copy_from_slice(part);
     }
     row.frames.len()

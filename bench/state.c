@@ -36,7 +36,7 @@ int main(int count, char **words)
         hgrpc_fresh(state, sizeof state);
         /* A request that runs has an odd id. */
         if (calls[k].number == 3)
-            state[5] = 3;
+            state[6] = 3;
         for (int i = 0; i < 1000; i++) {
             if (calls[k].call() != calls[k].number) {
                 fputs("state: another number was answered\n", stderr);

@@ -1,8 +1,9 @@
 //! Both sides of one hgrpc channel: on the receiving side bytes of the line go
 //! in and records come out; the sending side writes a request's frames. A board
-//! of sixteen coils does what the commands ask. These are the calls of the archive
-//! `libhgrpc.a`, which is for x86-64 Linux, as safe functions over slices. As a
-//! crate of its own:
+//! of sixteen coils does what the commands ask. Stored logs of records, as they
+//! were before a body length had four bytes, are rewritten. These are the calls of
+//! the archive `libhgrpc.a`, which is for x86-64 Linux, as safe functions over
+//! slices. As a crate of its own:
 //!
 //!     rustc --edition 2021 --crate-type rlib --crate-name hgrpc \
 //!         -L native=target/staticlib -l static=hgrpc bindings/hgrpc.rs
@@ -16,19 +17,21 @@
 #![allow(dead_code)]
 
 /// The bytes of a state, exactly.
-pub const STATE: usize = 180;
+pub const STATE: usize = 181;
 /// The bytes of a work area, at least.
-pub const WORK: usize = 20_488;
+pub const WORK: usize = 81_927;
 /// The bytes of an output, at least: those of the longest record.
-pub const OUTPUT: usize = 4_103;
+pub const OUTPUT: usize = 65_544;
 /// The bytes of a frame before its payload.
 pub const FRAME_HEAD: usize = 8;
 /// The bytes of a record before its command or payload.
-pub const RECORD_HEAD: usize = 7;
+pub const RECORD_HEAD: usize = 9;
 /// The bytes of a command, at most.
 pub const COMMAND_LONGEST: usize = 2_048;
 /// The bytes of a frame's payload, at most.
-pub const PAYLOAD_LONGEST: usize = 4_096;
+pub const PAYLOAD_LONGEST: usize = 65_535;
+/// The bytes of the payload of a full frame that is sent, at most.
+pub const SEND_SIZE_LONGEST: usize = 4_096;
 /// The requests at a time, at most: the slots, counted from 0.
 pub const REQUESTS: usize = 8;
 /// The bytes of an entry of a row.
@@ -129,6 +132,14 @@ pub mod raw {
             out_length: usize,
             written: *mut usize,
         ) -> u32;
+        pub fn hgrpc_convert(
+            log: *const u8,
+            log_length: usize,
+            out: *mut u8,
+            out_length: usize,
+            written: *mut usize,
+        ) -> u32;
+        pub fn hgrpc_whole(log: *const u8, log_length: usize) -> usize;
     }
 }
 
@@ -446,7 +457,7 @@ pub struct Request<'r> {
     pub begin: bool,
     /// Whether the last frame ends the stream.
     pub end: bool,
-    /// The bytes of a full payload, 1 to `PAYLOAD_LONGEST`.
+    /// The bytes of a full payload, 1 to `SEND_SIZE_LONGEST`.
     pub size: usize,
     /// The command's name, 1 to 64 bytes.
     pub name: &'r [u8],
@@ -515,6 +526,47 @@ pub fn send(request: &Request, out: &mut [u8]) -> Sent {
     Sent { number, written }
 }
 
+/// What a converter answers: its number, and how many bytes it wrote to the output.
+#[derive(Clone, Copy, Debug, PartialEq, Eq)]
+pub struct Converted {
+    pub number: u32,
+    pub written: usize,
+}
+
+/// Rewrites a stored log whose body lengths have two bytes: a length, its low byte
+/// first, two bytes of kind, which may be any, and the body, record behind record. In
+/// the output each length has four bytes. 0: the log is at the front of the output,
+/// whole, and the rest is as it was. 70 and 71, tried in number order: nothing is
+/// written. 70: the log ends inside a record. 71: the output is shorter than the exact
+/// total, for which `convert_most` is enough.
+pub fn convert(log: &[u8], out: &mut [u8]) -> Converted {
+    let mut written = 0;
+    // Each pointer comes with its own length, and the slices lie apart.
+    let number = unsafe {
+        raw::hgrpc_convert(
+            log.as_ptr(),
+            log.len(),
+            out.as_mut_ptr(),
+            out.len(),
+            &mut written,
+        )
+    };
+    Converted { number, written }
+}
+
+/// How many bytes the whole records at the front of such a log have: all of them, or
+/// the place, counted from 0, of the record that is broken.
+pub fn whole(log: &[u8]) -> usize {
+    // The pointer comes with its own length.
+    unsafe { raw::hgrpc_whole(log.as_ptr(), log.len()) }
+}
+
+/// The bytes of output that are enough for `convert`, whatever the log of so many bytes:
+/// each of its records has four at least. None if there are more than can be counted.
+pub fn convert_most(length: usize) -> Option<usize> {
+    length.checked_add(length / 4 * 2)
+}
+
 fn part(bytes: &[u8], number: u32, at: usize, size: usize) -> Result<&[u8], u32> {
     match number {
         0 => Ok(&bytes[at..][..size]),
@@ -573,15 +625,16 @@ impl<'o> Iterator for Records<'o> {
                 *self.rest.get(at + 1)?,
             ]))
         };
-        let end = 4 + usize::from(two(0)?);
-        let third = *self.rest.get(6)?;
+        let body = u32::from(two(0)?) | u32::from(two(2)?) << 16;
+        let end = (body as usize).checked_add(6)?;
+        let third = *self.rest.get(8)?;
         let record = Record {
-            kind: match two(2)? {
+            kind: match two(4)? {
                 1 => Kind::Command,
                 2 => Kind::Data,
                 _ => return None,
             },
-            request: two(4)?,
+            request: two(6)?,
             bit: third & 1 == 1,
             loose: third >> 1 & 1 == 1,
             bytes: self.rest.get(RECORD_HEAD..end)?,

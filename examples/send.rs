@@ -7,7 +7,7 @@
 #[path = "../bindings/hgrpc.rs"]
 mod hgrpc;
 
-use hgrpc::{Request, Sent, PAYLOAD_LONGEST};
+use hgrpc::{Request, Sent, SEND_SIZE_LONGEST};
 use std::ffi::OsString;
 use std::fs;
 use std::io::{stdin, stdout, ErrorKind, Read, Write};
@@ -115,7 +115,7 @@ fn asked(words: impl Iterator<Item = Vec<u8>>) -> Asked {
         stream: 1,
         begin: true,
         end: true,
-        size: PAYLOAD_LONGEST,
+        size: SEND_SIZE_LONGEST,
         data: None,
         words: Vec::new(),
     };
@@ -133,7 +133,7 @@ fn asked(words: impl Iterator<Item = Vec<u8>>) -> Asked {
         match &word[..] {
             b"--request" => asked.id = number(&option, &next(), "odd number", 65_535) as u16,
             b"--stream" => asked.stream = number(&option, &next(), "odd number", 255) as u8,
-            b"--size" => asked.size = number(&option, &next(), "number", PAYLOAD_LONGEST),
+            b"--size" => asked.size = number(&option, &next(), "number", SEND_SIZE_LONGEST),
             b"--data" => asked.data = Some(read(next())),
             b"--no-begin" => asked.begin = false,
             b"--no-end" => asked.end = false,

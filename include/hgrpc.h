@@ -1,8 +1,10 @@
 /* Both sides of one hgrpc channel, for C99 and C++. On the receiving side bytes
  * of the line go in and records come out; the sending side writes a request's
- * frames. A board of sixteen coils does what the commands ask. The calls are
- * those of the archive libhgrpc.a, which is for x86-64 Linux, as the kit's
- * compiler is, and needs memcpy and memset of its surroundings and nothing else.
+ * frames. A board of sixteen coils does what the commands ask. Stored logs of
+ * records, as they were before a body length had four bytes, are rewritten. The
+ * calls are those of the archive libhgrpc.a, which is for x86-64 Linux, as the
+ * kit's compiler is, and needs memcpy and memset of its surroundings and nothing
+ * else.
  *
  * The caller lends every buffer. A buffer is a pointer, which is not NULL also
  * where the length is 0, and a length; the buffers of one call lie apart from
@@ -13,12 +15,12 @@
  * the exact rules; where they say `above`, it is there:
  *
  *    0  done
- *    1  output shorter than 4,103
- *    2  work area shorter than 20,488
- *    3  state out of shape: pending above 4,103; a slot length above 2,048; a
+ *    1  output shorter than 65,544
+ *    2  work area shorter than 81,927
+ *    3  state out of shape: pending above 65,542; a slot length above 2,048; a
  *       used id even or double; a free slot or one not collecting that breaks
  *       the rule above; dead number neither 0 nor 11 to 29; a wrong count; or,
- *       8 or more pending, a held length above 4,096 or pending not below 8
+ *       8 or more pending, a held length above 65,535 or pending not below 8
  *       plus it. Also: bytes that are no state at all, or no board
  *    4  finish: id not running
  *    5  stopped for output, as above
@@ -26,7 +28,7 @@
  *    7  integer wanted, another type found
  *    8  integer outside -2^63 to 2^63-1
  *    9  row shorter than eight entries
- *   11  payload length above 4,096
+ *   11  payload length above 65,535
  *   12  request id even
  *   13  stream id even
  *   14  stream flag 0x08 or higher
@@ -54,11 +56,13 @@
  *   52  a command the check would refuse
  *   53  a command over 2,048 bytes
  *   54  output too short for the exact total
+ *   70  the log ends inside a record
+ *   71  output shorter than the exact total
  *
  * 11 to 29 refuse a frame: the channel is then dead, and the number is its dead
  * number, which every later feed and finish on it answers. 40 to 43 refuse a
- * command that the board is to do, and 50 to 54 a request that is to be sent; they
- * change nothing. */
+ * command that the board is to do, 50 to 54 a request that is to be sent, and 70
+ * and 71 a log that is to be converted; they change nothing. */
 
 #ifndef HGRPC_H
 #define HGRPC_H
@@ -71,19 +75,20 @@
 extern "C" {
 #endif
 
-#define HGRPC_STATE 180            /* bytes of a state, exactly */
-#define HGRPC_WORK 20488           /* bytes of a work area, at least */
-#define HGRPC_OUTPUT 4103          /* bytes of an output, at least: the longest record */
-#define HGRPC_FRAME_HEAD 8         /* bytes of a frame before its payload */
-#define HGRPC_RECORD_HEAD 7        /* bytes of a record before its command or payload */
-#define HGRPC_COMMAND_LONGEST 2048 /* bytes of a command, at most */
-#define HGRPC_PAYLOAD_LONGEST 4096 /* bytes of a frame's payload, at most */
-#define HGRPC_REQUESTS 8           /* requests at a time, at most: the slots, counted from 0 */
-#define HGRPC_ENTRY 3              /* bytes of an entry of a row */
-#define HGRPC_ROW 24               /* bytes of a row's eight entries; a row has these at least */
-#define HGRPC_BOARD 288            /* bytes of a board, exactly */
-#define HGRPC_COILS 16             /* coils of a board, counted from 0 */
-#define HGRPC_LABEL_LONGEST 16     /* bytes of a coil's label, at most */
+#define HGRPC_STATE 181              /* bytes of a state, exactly */
+#define HGRPC_WORK 81927             /* bytes of a work area, at least */
+#define HGRPC_OUTPUT 65544           /* bytes of an output, at least: the longest record */
+#define HGRPC_FRAME_HEAD 8           /* bytes of a frame before its payload */
+#define HGRPC_RECORD_HEAD 9          /* bytes of a record before its command or payload */
+#define HGRPC_COMMAND_LONGEST 2048   /* bytes of a command, at most */
+#define HGRPC_PAYLOAD_LONGEST 65535  /* bytes of a frame's payload, at most */
+#define HGRPC_SEND_SIZE_LONGEST 4096 /* bytes of the payload of a full frame that is sent, at most */
+#define HGRPC_REQUESTS 8             /* requests at a time, at most: the slots, counted from 0 */
+#define HGRPC_ENTRY 3                /* bytes of an entry of a row */
+#define HGRPC_ROW 24                 /* bytes of a row's eight entries; a row has these at least */
+#define HGRPC_BOARD 288              /* bytes of a board, exactly */
+#define HGRPC_COILS 16               /* coils of a board, counted from 0 */
+#define HGRPC_LABEL_LONGEST 16       /* bytes of a coil's label, at most */
 
 /* The phases of a slot, as an entry of a row has them. */
 #define HGRPC_PHASE_FREE 0       /* no request is in the slot */
@@ -212,7 +217,7 @@ uint32_t hgrpc_board_label(const uint8_t *board, size_t board_length, size_t coi
  * `request` is an odd id that is not active at the receiver, and `stream` an odd
  * stream. With `begin` the first frame begins the stream, which the receiver
  * wants exactly where the stream is closed; with `end` the last frame ends it.
- * `size` is the payload of a full frame, 1 to HGRPC_PAYLOAD_LONGEST: every frame
+ * `size` is the payload of a full frame, 1 to HGRPC_SEND_SIZE_LONGEST: every frame
  * but the last of the command and the last of the data is full, and no frame is
  * empty but the one of data of length 0. Without `with_data` no data follows:
  * `data` is then not read, but it is not NULL either.
@@ -262,10 +267,42 @@ static inline size_t hgrpc_send_most(size_t size, bool with_data, size_t data_le
     return data == 0 || data > SIZE_MAX - command ? 0 : data + command;
 }
 
+/* Rewrites a stored log, records one behind another, whose body lengths have two
+ * bytes: a length, two bytes of kind, which may be any, and the body. In the output
+ * each length has four bytes; kinds and bodies are the same, in order.
+ *
+ * 0: the log is rewritten whole, as the first `written` bytes of the output, two
+ * more for each record, and the rest of the output is as it was. Else the first
+ * that applies of: 70 the log ends inside a record; 71 the output is shorter than
+ * the log is then. With 70 and 71 `written` is 0 and nothing else changed. A log
+ * of no bytes is converted to one of no bytes. */
+uint32_t hgrpc_convert(const uint8_t *log, size_t log_length,
+                       uint8_t *out, size_t out_length, size_t *written);
+
+/* How many bytes the whole records at the front of such a log have: all of a log
+ * that hgrpc_convert does not refuse with 70, else as many as stand before the
+ * record that is broken, which is its place, counted from 0. So many bytes of the
+ * log are a log that can be converted. */
+size_t hgrpc_whole(const uint8_t *log, size_t log_length);
+
+/* The bytes of output that are enough for hgrpc_convert, whatever the log: each of
+ * its records has four bytes at least. 0 if they are more than a size_t counts. */
+static inline size_t hgrpc_convert_most(size_t length)
+{
+    size_t more = length / 4 * 2;
+    return more > SIZE_MAX - length ? 0 : length + more;
+}
+
 /* The 16-bit number in two bytes, the low one first. */
 static inline uint16_t hgrpc_two_bytes(const uint8_t *bytes)
 {
     return (uint16_t)(bytes[0] | (unsigned)bytes[1] << 8);
+}
+
+/* The 32-bit number in four bytes, the lowest one first. */
+static inline uint32_t hgrpc_four_bytes(const uint8_t *bytes)
+{
+    return hgrpc_two_bytes(bytes) | (uint32_t)hgrpc_two_bytes(bytes + 2) << 16;
 }
 
 /* ---- the same with the state as a struct ---- */
@@ -402,16 +439,16 @@ static inline int hgrpc_next_record(const uint8_t *out, size_t written, size_t *
     if (left < HGRPC_RECORD_HEAD)
         return 0;
     head = out + *place;
-    body = hgrpc_two_bytes(head);
-    if (body < HGRPC_RECORD_HEAD - 4 || left - 4 < body)
+    body = hgrpc_four_bytes(head);
+    if (body < HGRPC_RECORD_HEAD - 6 || left - 6 < body)
         return 0;
-    record->kind = hgrpc_two_bytes(head + 2);
-    record->request = hgrpc_two_bytes(head + 4);
-    record->bit = head[6] & 1;
-    record->loose = head[6] >> 1 & 1;
+    record->kind = hgrpc_two_bytes(head + 4);
+    record->request = hgrpc_two_bytes(head + 6);
+    record->bit = head[8] & 1;
+    record->loose = head[8] >> 1 & 1;
     record->bytes = head + HGRPC_RECORD_HEAD;
-    record->length = body - (HGRPC_RECORD_HEAD - 4);
-    *place += 4 + body;
+    record->length = body - (HGRPC_RECORD_HEAD - 6);
+    *place += 6 + body;
     return 1;
 }
 

@@ -1,10 +1,12 @@
 #!/usr/bin/env python3
-"""Writes mercurial.capture to standard output: the bytes that Mercurial's own client code sends for several requests at once.
+"""Writes a capture to standard output: the bytes that Mercurial's own client code sends for several requests at once.
 
     /usr/bin/python3 samples/mercurial.py >samples/mercurial.capture
+    /usr/bin/python3 samples/mercurial.py large >samples/mercurial-large.capture
 
 It needs Debian's package mercurial (6.3.2), which nothing else here does. Mercurial's module wireprotoframing makes every
-byte, heads and frames; this script says which commands are called, limits the frames, and sends the requests' frames in turn.
+byte, heads and frames; this script says which commands are called and sends the requests' frames in turn. In the first capture
+it limits the frames, so that commands and data are cut into several; in the second they are as long as Mercurial makes them.
 """
 import functools
 import io
@@ -17,11 +19,8 @@ try:
 except ImportError:
     sys.exit("mercurial.py: the Python that runs this has no package mercurial; Debian's is for /usr/bin/python3")
 
-# Mercurial's own limit, 32,768, is above the 4,096 that the channel takes. This one is lower still, so that commands and data
-# are cut into several frames.
+# The payload of a full frame in the first capture. Mercurial's own limit is 32,768.
 LIMIT = 64
-wireprotoframing.DEFAULT_MAX_FRAME_SIZE = LIMIT
-wireprotoframing.createcommandframes = functools.partial(wireprotoframing.createcommandframes, maxframesize=LIMIT)
 
 
 def call(reactor, name, args, data=None, redirect=None):
@@ -44,9 +43,13 @@ def in_turn(requests):
         requests = left
 
 
-def main():
-    reactor = wireprotoframing.clientreactor(ui.ui(), hasmultiplesend=True, buffersends=False)
-    requests = [
+def limit_frames():
+    wireprotoframing.DEFAULT_MAX_FRAME_SIZE = LIMIT
+    wireprotoframing.createcommandframes = functools.partial(wireprotoframing.createcommandframes, maxframesize=LIMIT)
+
+
+def short_requests(reactor):
+    return [
         # no arguments: Mercurial leaves `args` out
         call(reactor, b'off', {}),
         # data in two frames
@@ -60,8 +63,27 @@ def main():
         # a command in two frames, with a value of each type
         call(reactor, b'points', {b'left': {3, 5}, b'right': [-1, 1 << 40], b'until': None, b'by': {b'key': False}, b'hold': 250}),
     ]
-    for frame in in_turn(requests):
+
+
+def large_requests(reactor):
+    """A timetable of 70,000 bytes, which are two full frames and a part of a third, beside a short command."""
+    timetable = b''.join(b'train %04d leaves the engine shed; ' % train for train in range(1, 2001))
+    return [
+        call(reactor, b'upload', {b'track': 7, b'bytes': len(timetable)}, data=timetable),
+        call(reactor, b'set', {b'coil': 3, b'on': True}),
+    ]
+
+
+def main(words):
+    if words not in ([], ['large']):
+        sys.exit('mercurial.py: its one word is `large`')
+    requests = large_requests
+    if not words:
+        limit_frames()
+        requests = short_requests
+    reactor = wireprotoframing.clientreactor(ui.ui(), hasmultiplesend=True, buffersends=False)
+    for frame in in_turn(requests(reactor)):
         sys.stdout.buffer.write(frame)
 
 
-main()
+main(sys.argv[1:])

@@ -10,7 +10,7 @@
 #define NAME "\x44" "name" "\x43" "set"
 #define COMMAND "\xa2" NAME "\x44" "args\xa0"
 #define T1 "\x10\0\0\1\0\1\1\x11" COMMAND
-#define RECORD "\x13\0\1\0\1\0\0" COMMAND
+#define RECORD "\x13\0\0\0\1\0\1\0\0" COMMAND
 #define BYTES(text) (const uint8_t *)(text), sizeof(text) - 1
 #define IS(got, wanted) is(__LINE__, (long long)(got), (long long)(wanted))
 
@@ -20,7 +20,7 @@ static unsigned answers;
 typedef struct {
     hgrpc_state state;
     uint8_t work[HGRPC_WORK];
-    uint8_t out[3 * HGRPC_OUTPUT];
+    uint8_t out[HGRPC_OUTPUT + 999];
 } board;
 
 static board b;
@@ -51,8 +51,8 @@ static uint32_t feed_all(const uint8_t *input, size_t length)
 static uint32_t frame(unsigned id, unsigned stream, unsigned stream_flags, unsigned last,
                       const uint8_t *payload, size_t length)
 {
-    static uint8_t bytes[8 + HGRPC_PAYLOAD_LONGEST];
-    const uint8_t header[8] = {
+    static uint8_t bytes[HGRPC_FRAME_HEAD + HGRPC_PAYLOAD_LONGEST];
+    const uint8_t header[HGRPC_FRAME_HEAD] = {
         (uint8_t)(length & 255), (uint8_t)(length >> 8 & 255), (uint8_t)(length >> 16),
         (uint8_t)(id & 255), (uint8_t)(id >> 8), (uint8_t)stream, (uint8_t)stream_flags,
         (uint8_t)last};
@@ -91,8 +91,8 @@ static void refused_calls(void)
     hgrpc_channel_fresh(&b.state);
     before = b;
     IS(hgrpc_fresh(b.state.bytes, HGRPC_STATE - 1), 3);
-    IS(hgrpc_channel_feed(&b.state, b.work, HGRPC_WORK - 1, BYTES(T1), b.out, 9999).number, 2);
-    IS(hgrpc_channel_feed(&b.state, b.work, HGRPC_WORK, BYTES(T1), b.out, 4102).number, 1);
+    IS(hgrpc_channel_feed(&b.state, b.work, HGRPC_WORK - 1, BYTES(T1), b.out, HGRPC_OUTPUT).number, 2);
+    IS(hgrpc_channel_feed(&b.state, b.work, HGRPC_WORK, BYTES(T1), b.out, HGRPC_OUTPUT - 1).number, 1);
     IS(hgrpc_feed(b.state.bytes, HGRPC_STATE - 1, b.work, sizeof b.work, BYTES(T1), b.out,
                   sizeof b.out, &taken, &written), 3);
     IS(taken, 0);
@@ -123,7 +123,7 @@ static void stopped_for_output(void)
     fed = feed(input + fed.taken, sizeof input - fed.taken);
     IS(fed.number, 0);
     IS(fed.written, sizeof RECORD - 1);
-    IS(b.out[4], 3);
+    IS(b.out[6], 3);
     IS(feed(input, 0).number, 0);
 }
 
@@ -156,7 +156,7 @@ static void refused_headers(void)
 {
     static const uint8_t none[1] = {0};
     busy();
-    refused_with(11, frame(5, 1, 0, 0x11, none, 4097));
+    refused_with(11, frame(5, 1, 0, 0x11, none, HGRPC_PAYLOAD_LONGEST + 1));
     refused_with(12, frame(2, 1, 0, 0x11, none, 0));
     refused_with(13, frame(5, 2, 0, 0x11, none, 0));
     refused_with(14, frame(5, 1, 8, 0x11, none, 0));
@@ -295,7 +295,7 @@ static void accepted(void)
     IS(frame(1, 1, 0, 0x21, BYTES("slow")), 0);
     IS(hgrpc_channel_finish(&b.state, 1), 4);
     IS(frame(1, 1, 0, 0x22, BYTES("er")), 0);
-    IS(hgrpc_next_record(b.out, 9, &place, &record), 1);
+    IS(hgrpc_next_record(b.out, HGRPC_RECORD_HEAD + 2, &place, &record), 1);
     IS(record.kind, HGRPC_KIND_DATA);
     IS(record.request, 1);
     IS(record.bit, 1);
@@ -306,6 +306,30 @@ static void accepted(void)
     IS(hgrpc_channel_finish(&b.state, 1), 0);
     IS(frame(3, 1, 2, 0x12, BYTES(NAME "\x44" "args\xa0")), 0);
     IS(hgrpc_channel_finish(&b.state, 3), 0);
+}
+
+/* The longest data frame, into an output of the least length: its record fills it, and is the longest one. */
+static void longest_frame(void)
+{
+    static uint8_t data[HGRPC_PAYLOAD_LONGEST];
+    hgrpc_record record;
+    size_t i, place = 0;
+    for (i = 0; i < sizeof data; i++)
+        data[i] = (uint8_t)(i ^ i >> 8);
+    busy();
+    IS(frame(1, 1, 0, 0x22, data, sizeof data), 0);
+    IS(memcmp(b.out, "\2\0\1\0\2\0\1\0\1", HGRPC_RECORD_HEAD), 0);
+    IS(hgrpc_next_record(b.out, HGRPC_OUTPUT - 1, &place, &record), 0);
+    IS(place, 0);
+    IS(hgrpc_next_record(b.out, HGRPC_OUTPUT, &place, &record), 1);
+    IS(place, HGRPC_OUTPUT);
+    IS(record.kind, HGRPC_KIND_DATA);
+    IS(record.request, 1);
+    IS(record.bit, 1);
+    IS(record.length, sizeof data);
+    IS(memcmp(record.bytes, data, sizeof data), 0);
+    IS(hgrpc_next_record(b.out, HGRPC_OUTPUT, &place, &record), 0);
+    IS(hgrpc_channel_finish(&b.state, 1), 0);
 }
 
 /* Two records, in a buffer that ends where the count says, for every count. */
@@ -405,7 +429,7 @@ static void marked_records(void)
         hgrpc_record record;
         hgrpc_channel_fresh(&b.state);
         IS(frame(1, 1, 1, data ? 0x19 : 0x11, (const uint8_t *)command, length), 0);
-        IS(b.out[6], row);
+        IS(b.out[8], row);
         IS(hgrpc_next_record(b.out, HGRPC_RECORD_HEAD + length, &place, &record), 1);
         IS(record.kind, HGRPC_KIND_COMMAND);
         IS(record.bit, data);
@@ -563,7 +587,7 @@ static void sent(void)
 {
     size_t written = 9;
     memset(b.out, 0xa5, sizeof b.out);
-    SENT(hgrpc_send(BYTES("set"), BYTES(""), 0, 1, 1, true, false, 4096, NO_DATA, OUT(24)), T1);
+    SENT(hgrpc_send(BYTES("set"), BYTES(""), 0, 1, 1, true, false, HGRPC_SEND_SIZE_LONGEST, NO_DATA, OUT(24)), T1);
     SENT(hgrpc_send(BYTES("set"), BYTES(""), 0, 1, 1, true, false, 16, NO_DATA, OUT(99)), T1);
     SENT(hgrpc_send(BYTES("set"), BYTES(""), 0, 1, 1, true, false, 16, false, BYTES("unread"), OUT(99)), T1);
     /* Frames of eight bytes; data that fills one, empty data, and data of nine. */
@@ -586,7 +610,8 @@ static void refused_requests(void)
     REFUSED(50, hgrpc_send(BYTES(""), BYTES(""), 1, 2, 1, true, true, 0, NO_DATA, OUT(0)));
     REFUSED(50, hgrpc_send(BYTES(""), BYTES(""), 1, 1, 2, true, true, 0, NO_DATA, OUT(0)));
     REFUSED(51, hgrpc_send(BYTES(""), BYTES(""), 1, 1, 1, true, true, 0, NO_DATA, OUT(0)));
-    REFUSED(51, hgrpc_send(BYTES(""), BYTES(""), 1, 1, 1, true, true, 4097, NO_DATA, OUT(0)));
+    REFUSED(51, hgrpc_send(BYTES(""), BYTES(""), 1, 1, 1, true, true, HGRPC_SEND_SIZE_LONGEST + 1, NO_DATA, OUT(0)));
+    REFUSED(51, hgrpc_send(BYTES(""), BYTES(""), 1, 1, 1, true, true, HGRPC_PAYLOAD_LONGEST, NO_DATA, OUT(0)));
     REFUSED(51, hgrpc_send(BYTES("a"), BYTES(""), 0, 1, 1, true, true, SIZE_MAX, NO_DATA, OUT(99)));
     REFUSED(52, hgrpc_send(BYTES(""), BYTES(""), 0, 1, 1, true, true, 1, NO_DATA, OUT(0)));
     REFUSED(52, hgrpc_send(BYTES("a"), pairs, sizeof pairs, 2, 1, 1, true, true, 1, NO_DATA, OUT(0)));
@@ -594,8 +619,8 @@ static void refused_requests(void)
     REFUSED(52, hgrpc_send(BYTES("a"), BYTES("\x41k\x05"), 0, 1, 1, true, true, 1, NO_DATA, OUT(99)));
     REFUSED(53, hgrpc_send(BYTES("a"), pairs, sizeof pairs, 1, 1, 1, true, true, 1, NO_DATA, OUT(0)));
     REFUSED(54, hgrpc_send(BYTES("a"), BYTES(""), 0, 1, 1, true, true, 1, NO_DATA, OUT(0)));
-    REFUSED(54, hgrpc_send(BYTES("set"), BYTES(""), 0, 1, 1, true, true, 4096, NO_DATA, OUT(23)));
-    REFUSED(54, hgrpc_send(BYTES("set"), BYTES(""), 0, 1, 1, true, true, 4096, true, BYTES(""), OUT(31)));
+    REFUSED(54, hgrpc_send(BYTES("set"), BYTES(""), 0, 1, 1, true, true, HGRPC_SEND_SIZE_LONGEST, NO_DATA, OUT(23)));
+    REFUSED(54, hgrpc_send(BYTES("set"), BYTES(""), 0, 1, 1, true, true, 16, true, BYTES(""), OUT(31)));
 }
 
 /* The longest command in frames of every size, with data: what hgrpc_send_most
@@ -605,8 +630,9 @@ static void most_output(void)
     static uint8_t frames[9 * (HGRPC_COMMAND_LONGEST + 99)]; /* frames of one byte */
     static uint8_t pairs[HGRPC_COMMAND_LONGEST - 16] = "\x41k\x59\x7\xeb";
     static const uint8_t data[99] = {0};
+    const size_t largest = HGRPC_SEND_SIZE_LONGEST, command = HGRPC_COMMAND_LONGEST + HGRPC_FRAME_HEAD;
     size_t size, written;
-    for (size = 1; size <= HGRPC_PAYLOAD_LONGEST; size++) {
+    for (size = 1; size <= HGRPC_SEND_SIZE_LONGEST; size++) {
         size_t most = hgrpc_send_most(size, true, sizeof data);
         IS(hgrpc_send(BYTES("set"), pairs, sizeof pairs, 1, 1, 1, true, true, size, true, data, sizeof data,
                       frames, most, &written), 0);
@@ -618,14 +644,14 @@ static void most_output(void)
                       frames, most, &written), 0);
         IS(written, most);
     }
-    IS(hgrpc_send_most(4096, false, 0), 2056);
-    IS(hgrpc_send_most(4096, true, 0), 2064);
-    IS(hgrpc_send_most(4096, true, 4096), 2056 + 4104);
-    IS(hgrpc_send_most(4096, true, 4097), 2056 + 4113);
+    IS(hgrpc_send_most(largest, false, 0), command);
+    IS(hgrpc_send_most(largest, true, 0), command + HGRPC_FRAME_HEAD);
+    IS(hgrpc_send_most(largest, true, largest), command + largest + HGRPC_FRAME_HEAD);
+    IS(hgrpc_send_most(largest, true, largest + 1), command + largest + 1 + 2 * HGRPC_FRAME_HEAD);
     IS(hgrpc_send_most(0, true, 0), 0);
     IS(hgrpc_send_most(1, true, SIZE_MAX / 9 + 1), 0);
     IS(hgrpc_send_most(1, true, SIZE_MAX / 9), 0);
-    IS(hgrpc_send_most(4096, true, SIZE_MAX), 0);
+    IS(hgrpc_send_most(largest, true, SIZE_MAX), 0);
     IS(hgrpc_send_most(SIZE_MAX, true, SIZE_MAX - 8), 0);
 }
 
@@ -658,6 +684,82 @@ static void sent_and_received(void)
     IS(hgrpc_channel_finish(&b.state, 7), 0);
 }
 
+#define OLD_RECORD "\x13\0\1\0\1\0\0" COMMAND
+#define OLD_DATA "\5\0\2\0\1\0\1hi"
+#define OLD_LOG OLD_RECORD OLD_DATA "\0\0\xff\xfe"
+#define NEW_LOG RECORD "\5\0\0\0\2\0\1\0\1hi" "\0\0\0\0\xff\xfe"
+
+/* Logs that are converted: three records, one and none; just enough output, and more. */
+static void converted(void)
+{
+    size_t written = 9;
+    memset(b.out, 0xa5, sizeof b.out);
+    SENT(hgrpc_convert(BYTES(OLD_LOG), OUT(sizeof NEW_LOG - 1)), NEW_LOG);
+    SENT(hgrpc_convert(BYTES(OLD_LOG), OUT(sizeof b.out)), NEW_LOG);
+    SENT(hgrpc_convert(BYTES(OLD_RECORD), OUT(sizeof RECORD - 1)), RECORD);
+    written = 9;
+    SENT(hgrpc_convert(BYTES(""), OUT(0)), "");
+    SENT(hgrpc_convert(BYTES(""), OUT(99)), "");
+    REFUSED(71, hgrpc_convert(BYTES(OLD_LOG), OUT(sizeof NEW_LOG - 2)));
+    REFUSED(71, hgrpc_convert(BYTES(OLD_LOG), OUT(0)));
+}
+
+/* A log that is cut at each place, in a buffer that ends there: whole where a record ends, else 70, also where the
+ * output is too short; and the place of the record that is broken. */
+static void cut_logs(void)
+{
+    static const size_t ends[] = {0, sizeof OLD_RECORD - 1, sizeof OLD_RECORD + sizeof OLD_DATA - 2, sizeof OLD_LOG - 1};
+    size_t count, written, last = 0;
+    memset(b.out, 0xa5, sizeof b.out);
+    for (count = 0; count < sizeof OLD_LOG; count++) {
+        uint8_t *exact = (uint8_t *)malloc(count ? count : 1);
+        IS(exact != NULL, 1);
+        memcpy(exact, OLD_LOG, count);
+        if (last < 3 && count == ends[last + 1])
+            last++;
+        IS(hgrpc_whole(exact, count), ends[last]);
+        if (count == ends[last]) {
+            IS(hgrpc_convert(exact, count, OUT(sizeof b.out)), 0);
+            IS(written, count + 2 * last);
+            IS(memcmp(b.out, NEW_LOG, written), 0);
+            memset(b.out, 0xa5, written);
+        } else {
+            REFUSED(70, hgrpc_convert(exact, count, OUT(sizeof b.out)));
+            REFUSED(70, hgrpc_convert(exact, count, OUT(0)));
+        }
+        free(exact);
+    }
+}
+
+/* Records with the longest body that two bytes can tell, and without any: what hgrpc_convert_most asks for is enough,
+ * and for the second just enough. */
+static void most_log(void)
+{
+    static uint8_t log[4 + UINT16_MAX] = "\xff\xff\2", old[400];
+    size_t written, i;
+    for (i = 4; i < sizeof log; i++)
+        log[i] = (uint8_t)(i ^ i >> 8);
+    IS(hgrpc_whole(log, sizeof log), sizeof log);
+    IS(hgrpc_whole(log, sizeof log - 1), 0);
+    IS(hgrpc_convert(log, sizeof log, OUT(sizeof log + 1)), 71);
+    IS(hgrpc_convert(log, sizeof log, OUT(sizeof log + 2)), 0);
+    IS(written, sizeof log + 2);
+    IS(memcmp(b.out, "\xff\xff\0\0\2\0", 6), 0);
+    IS(memcmp(b.out + 6, log + 4, sizeof log - 4), 0);
+    IS(hgrpc_convert_most(sizeof log) >= written, 1);
+    IS(hgrpc_convert_most(sizeof old), 600);
+    IS(hgrpc_convert(old, sizeof old, OUT(600)), 0);
+    IS(written, 600);
+    IS(hgrpc_convert(old, sizeof old, OUT(599)), 71);
+    IS(written, 0);
+    IS(hgrpc_convert_most(0), 0);
+    IS(hgrpc_convert_most(3), 3);
+    IS(hgrpc_convert_most(4), 6);
+    IS(hgrpc_convert_most(SIZE_MAX), 0);
+    IS(hgrpc_convert_most(SIZE_MAX / 3 * 2 + 2), 0);
+    IS(hgrpc_convert_most(SIZE_MAX / 3 * 2) != 0, 1);
+}
+
 int main(void)
 {
     first_trace(3);
@@ -668,6 +770,7 @@ int main(void)
     refused_headers();
     refused_payloads();
     accepted();
+    longest_frame();
     shown();
     row_lengths();
     not_shown();
@@ -683,6 +786,9 @@ int main(void)
     refused_requests();
     most_output();
     sent_and_received();
+    converted();
+    cut_logs();
+    most_log();
     printf("calls: %u answers, each as the rules have it\n", answers);
     return 0;
 }

@@ -4,15 +4,18 @@
 #[path = "../bindings/hgrpc.rs"]
 mod hgrpc;
 
-use hgrpc::{records, send, Board, Entry, Fed, Kind, Phase, Record, Request, Sent, State};
-use hgrpc::{BOARD, COILS, OUTPUT, REQUESTS, ROW, STATE, WORK};
+use hgrpc::{convert, records, send, whole, Converted};
+use hgrpc::{Board, Entry, Fed, Kind, Phase, Record, Request, Sent, State};
+use hgrpc::{BOARD, COILS, COMMAND_LONGEST, FRAME_HEAD, OUTPUT, PAYLOAD_LONGEST, RECORD_HEAD};
+use hgrpc::{REQUESTS, ROW, SEND_SIZE_LONGEST, STATE, WORK};
 
 const COMMAND: &[u8] = b"\xa2\x44name\x43set\x44args\xa0";
 const WITH_ARGUMENTS: &[u8] =
     b"\xa2\x44name\x43set\x44args\xa3\x41a\x20\x41b\x41x\x41c\x3b\x80\0\0\0\0\0\0\0";
 
 fn frame(id: u8, stream_flags: u8, last: u8, payload: &[u8]) -> Vec<u8> {
-    let header = [payload.len() as u8, 0, 0, id, 0, 1, stream_flags, last];
+    let [low, middle, high, _] = (payload.len() as u32).to_le_bytes();
+    let header = [low, middle, high, id, 0, 1, stream_flags, last];
     [&header[..], payload].concat()
 }
 
@@ -54,17 +57,18 @@ fn stop_and_refusal() {
     let mut state = State::fresh();
     let input = [frame(1, 1, 0x11, COMMAND), frame(3, 0, 0x19, COMMAND)].concat();
     let stop = state.feed(&mut work, &input, &mut out);
-    assert_eq!(stop, fed(5, input.len() - 1, 23));
+    let one = RECORD_HEAD + COMMAND.len();
+    assert_eq!(stop, fed(5, input.len() - 1, one));
     let rest = state.feed(&mut work, &input[stop.taken..], &mut out);
-    assert_eq!(rest, fed(0, 1, 23));
-    let record = records(&out[..23]).next().expect("a record");
+    assert_eq!(rest, fed(0, 1, one));
+    let record = records(&out[..one]).next().expect("a record");
     assert_eq!(
         (record.request, record.bit, record.runs()),
         (3, true, false)
     );
     let data = frame(3, 0, 0x22, b"hi");
-    assert_eq!(state.feed(&mut work, &data, &mut out), fed(0, 10, 9));
-    let record = records(&out[..9]).next().expect("a record");
+    assert_eq!(state.feed(&mut work, &data, &mut out), fed(0, 10, 11));
+    let record = records(&out[..11]).next().expect("a record");
     assert_eq!((record.kind, record.bytes), (Kind::Data, &b"hi"[..]));
     assert!(record.runs());
     assert_eq!(state.feed(&mut work, &data, &mut out), fed(27, 10, 0));
@@ -147,13 +151,35 @@ fn rows() {
 
 /// Two records, cut at every place: only whole ones are read.
 fn cut_records() {
-    let one = [b"\x13\0\x01\0\x01\0\0", COMMAND].concat();
+    let one = [b"\x13\0\0\0\x01\0\x01\0\0", COMMAND].concat();
     let two = [&one[..], &one].concat();
     for count in 0..=two.len() {
         assert_eq!(records(&two[..count]).count(), count / one.len());
     }
-    assert_eq!(records(b"\x03\0\x07\0\x01\0\0").count(), 0);
-    assert_eq!(records(b"\x02\0\x01\0\x01\0\0").count(), 0);
+    assert_eq!(records(b"\x03\0\0\0\x07\0\x01\0\0").count(), 0);
+    assert_eq!(records(b"\x02\0\0\0\x01\0\x01\0\0").count(), 0);
+}
+
+/// The longest data frame, and one that claims a byte more. The record fills an output of
+/// the least length.
+fn longest_frame() {
+    let mut work = vec![0; WORK];
+    let mut out = vec![0; OUTPUT];
+    let mut state = State::fresh();
+    let data: Vec<u8> = (0..PAYLOAD_LONGEST).map(|i| (i ^ i >> 8) as u8).collect();
+    state.feed(&mut work, &frame(1, 1, 0x19, COMMAND), &mut out);
+    let longest = frame(1, 0, 0x22, &data);
+    let answer = state.feed(&mut work, &longest, &mut out[1..]);
+    assert_eq!(answer, fed(1, 0, 0));
+    let answer = state.feed(&mut work, &longest, &mut out);
+    assert_eq!(answer, fed(0, longest.len(), OUTPUT));
+    let record = records(&out).next().expect("a record");
+    assert_eq!((record.kind, record.request), (Kind::Data, 1));
+    assert!(record.bytes == data && record.runs());
+    assert_eq!(records(&out[..OUTPUT - 1]).count(), 0);
+    let over = frame(1, 0, 0x22, &vec![0; PAYLOAD_LONGEST + 1]);
+    let answer = state.feed(&mut work, &over, &mut out);
+    assert_eq!(answer, fed(11, FRAME_HEAD, 0));
 }
 
 fn lookups() {
@@ -206,8 +232,8 @@ fn marked_records() {
         let mut state = State::fresh();
         let input = frame(1, 1, last, bytes);
         let answer = state.feed(&mut work, &input, &mut out);
-        assert_eq!(answer, fed(0, input.len(), 7 + bytes.len()));
-        assert_eq!(out[6], third);
+        assert_eq!(answer, fed(0, input.len(), RECORD_HEAD + bytes.len()));
+        assert_eq!(out[8], third);
         let record = Record {
             kind: Kind::Command,
             request: 1,
@@ -280,7 +306,7 @@ const REQUEST: Request = Request {
     stream: 1,
     begin: true,
     end: false,
-    size: 4096,
+    size: SEND_SIZE_LONGEST,
     name: b"set",
     pairs: b"",
     count: 0,
@@ -330,7 +356,7 @@ fn sends() {
 
 /// Each request has a reason for its number and for those above it.
 fn refused_requests() {
-    let pairs = [&b"\x41k\x59\x08\0"[..], &[7; 2048]].concat();
+    let pairs = [&b"\x41k\x59\x08\0"[..], &[7; COMMAND_LONGEST]].concat();
     let all = Request {
         id: 2,
         size: 0,
@@ -345,7 +371,7 @@ fn refused_requests() {
     };
     let small = Request { id: 1, ..all };
     let large = Request {
-        size: 4097,
+        size: SEND_SIZE_LONGEST + 1,
         ..small
     };
     let nameless = Request { size: 1, ..small };
@@ -366,7 +392,8 @@ fn refused_requests() {
 /// The longest command, with data: `most` is just enough.
 fn most() {
     let pairs = [&b"\x41k\x59\x07\xeb"[..], &[7; 2027]].concat();
-    for size in [1, 2, 7, 100, 2047, 2048, 4096] {
+    let longest = COMMAND_LONGEST;
+    for size in [1, 2, 7, 100, longest - 1, longest, SEND_SIZE_LONGEST] {
         let request = Request {
             pairs: &pairs,
             count: 1,
@@ -378,8 +405,65 @@ fn most() {
         assert_eq!(sent(&request, most).map(|out| out.len()), Ok(most));
         assert_eq!(sent(&request, most - 1), Err(54));
     }
-    assert_eq!(REQUEST.most(), Some(2056));
+    assert_eq!(REQUEST.most(), Some(longest + FRAME_HEAD));
     assert_eq!(Request { size: 0, ..REQUEST }.most(), None);
+}
+
+/// T1's and T3's records as they were stored, and one without a body.
+const OLD_LOG: &[u8] =
+    b"\x13\0\x01\0\x01\0\0\xa2\x44name\x43set\x44args\xa0\x05\0\x02\0\x01\0\x01hi\0\0\xff\xfe";
+const NEW_LOG: &[u8] = b"\x13\0\0\0\x01\0\x01\0\0\xa2\x44name\x43set\x44args\xa0\
+    \x05\0\0\0\x02\0\x01\0\x01hi\0\0\0\0\xff\xfe";
+
+/// What is converted into an output of a length, all else of which stays.
+fn converted(log: &[u8], length: usize) -> Result<Vec<u8>, u32> {
+    let mut out = vec![0xa5; length];
+    let Converted { number, written } = convert(log, &mut out);
+    assert!(out[written..].iter().all(|byte| *byte == 0xa5));
+    out.truncate(written);
+    match number {
+        0 => Ok(out),
+        _ => {
+            assert_eq!(written, 0);
+            Err(number)
+        }
+    }
+}
+
+/// Three records, cut at every place.
+fn logs() {
+    let ends = [0, 23, 32, OLD_LOG.len()];
+    for count in 0..=OLD_LOG.len() {
+        let log = &OLD_LOG[..count];
+        let last = ends.iter().filter(|end| **end <= count).count() - 1;
+        assert_eq!(whole(log), ends[last]);
+        let most = hgrpc::convert_most(count).expect("it can be counted");
+        let total = count + 2 * last;
+        if count == ends[last] {
+            let new = NEW_LOG[..total].to_vec();
+            assert_eq!(converted(log, total), Ok(new.clone()));
+            assert_eq!(converted(log, most), Ok(new));
+        } else {
+            assert_eq!(converted(log, most), Err(70));
+            assert_eq!(converted(log, 0), Err(70));
+        }
+        if total > 0 && count == ends[last] {
+            assert_eq!(converted(log, total - 1), Err(71));
+        }
+    }
+    assert_eq!(hgrpc::convert_most(3), Some(3));
+    assert_eq!(hgrpc::convert_most(4), Some(6));
+    assert_eq!(hgrpc::convert_most(usize::MAX), None);
+}
+
+/// The longest body that two bytes can tell.
+fn longest_log() {
+    let body = vec![7; u16::MAX.into()];
+    let log = [&b"\xff\xff\x02\0"[..], &body].concat();
+    let new = [&b"\xff\xff\0\0\x02\0"[..], &body].concat();
+    assert!(converted(&log, new.len()) == Ok(new));
+    assert_eq!((whole(&log), whole(&log[..log.len() - 1])), (log.len(), 0));
+    assert_eq!(converted(&log[1..], 0), Err(70));
 }
 
 fn main() {
@@ -391,6 +475,7 @@ fn main() {
     lamp();
     rows();
     cut_records();
+    longest_frame();
     lookups();
     marks();
     marked_records();
@@ -399,5 +484,7 @@ fn main() {
     sends();
     refused_requests();
     most();
+    logs();
+    longest_log();
     println!("calls (Rust): each answer as the rules have it");
 }

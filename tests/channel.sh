@@ -7,13 +7,13 @@ sanitizers=(-g -fsanitize=address,undefined -fno-sanitize-recover=all)
 
 # Guard pages, and that they would be noticed.
 archive_program tests/guard.rs "$out/guard" "$out"
-"$out/guard" run 5 2000 20000 5000 5000
+"$out/guard" run 5 2000 20000 5000 5000 5000
 "$out/guard" over
-must_fail 'never came up' "$out/guard" run 5 20 20 20 20
+must_fail 'never came up' "$out/guard" run 5 20 20 20 20 20
 copy=${wrong_receivers[0]}
 build_lines "$copy"
 archive_program tests/guard.rs "$copy/guard" "$copy"
-must_fail '^guard: difference' "$copy/guard" run 5 2000 0 0 0
+must_fail '^guard: difference' "$copy/guard" run 5 2000 0 0 0 0
 
 # Any bytes as a state.
 archive_program tests/states.rs "$out/states" "$out"
@@ -21,7 +21,7 @@ archive_program tests/states.rs "$out/states" "$out"
 for copy in "${wrong_states[@]}"; do
     build_lines "$copy"
     archive_program tests/states.rs "$copy/states" "$copy"
-    must_fail '^states: .*\(feed\|finish\) ' "$copy/states" 6 1 2000
+    must_fail '^states: .*\(feed\|finish\|active\) ' "$copy/states" 6 1 2000
 done
 
 # The header, from C and from C++.
@@ -44,7 +44,7 @@ gcc -std=c99 -I"$out/wrong/look" -o "$out/wrong/calls" tests/calls.c "$archive"
 must_fail '^calls: line' "$out/wrong/calls"
 
 mkdir "$out/wrong/third"
-change 's/record->bit = head\[6\] & 1;/record->bit = head[6];/' include/hgrpc.h "$out/wrong/third/hgrpc.h"
+change 's/record->bit = head\[8\] & 1;/record->bit = head[8];/' include/hgrpc.h "$out/wrong/third/hgrpc.h"
 gcc -std=c99 -I"$out/wrong/third" -o "$out/wrong/calls" tests/calls.c "$archive"
 must_fail '^calls: line' "$out/wrong/calls"
 
@@ -52,6 +52,14 @@ mkdir "$out/wrong/entries"
 change 's/row\[slot\]\.phase = bytes\[slot \* HGRPC_ENTRY + 2\]/row[slot].phase = bytes[2]/' include/hgrpc.h "$out/wrong/entries/hgrpc.h"
 gcc -std=c99 -I"$out/wrong/entries" -o "$out/wrong/calls" tests/calls.c "$archive"
 must_fail '^calls: line' "$out/wrong/calls"
+
+mkdir "$out/wrong/length" "$out/wrong/most"
+change 's/body = hgrpc_four_bytes(head);/body = hgrpc_two_bytes(head);/' include/hgrpc.h "$out/wrong/length/hgrpc.h"
+change 's/more = length \/ 4 \* 2;/more = length \/ 8 * 2;/' include/hgrpc.h "$out/wrong/most/hgrpc.h"
+for wrong in length most; do
+    gcc -std=c99 -I"$out/wrong/$wrong" -o "$out/wrong/calls" tests/calls.c "$archive"
+    must_fail '^calls: line' "$out/wrong/calls"
+done
 
 # The bindings, taken in as a module.
 rust -o "$out/calls_rust" -L native=target/staticlib -l static=hgrpc tests/calls.rs
@@ -75,9 +83,15 @@ change 's/1 => Phase::Collecting/1 => Phase::Waiting/' bindings/hgrpc.rs "$out/w
 rust -o "$out/wrong/calls_rust" -L native=target/staticlib -l static=hgrpc "$out/wrong/calls.rs"
 must_fail 'assertion `left == right` failed' "$out/wrong/calls_rust"
 
+for expression in 's/u32::from(two(2)?) << 16/0/' 's/length \/ 4 \* 2/length \/ 8 * 2/'; do
+    change "$expression" bindings/hgrpc.rs "$out/wrong/bindings/hgrpc.rs"
+    rust -o "$out/wrong/calls_rust" -L native=target/staticlib -l static=hgrpc "$out/wrong/calls.rs"
+    must_fail 'panicked at' "$out/wrong/calls_rust"
+done
+
 # A reader of records that looks past the count is noticed.
 mkdir "$out/wrong/reader"
-change 's/if (left < HGRPC_RECORD_HEAD)/if (out[*place + 6] == 255 || left < HGRPC_RECORD_HEAD)/' \
+change 's/if (left < HGRPC_RECORD_HEAD)/if (out[*place + 8] == 255 || left < HGRPC_RECORD_HEAD)/' \
     include/hgrpc.h "$out/wrong/reader/hgrpc.h"
 gcc -std=c99 "${sanitizers[@]}" -I"$out/wrong/reader" -o "$out/wrong/reader/calls" tests/calls.c "$archive"
 must_fail 'AddressSanitizer: heap-buffer-overflow' "$out/wrong/reader/calls"
@@ -92,7 +106,7 @@ while IFS='|' read -r _ number words _; do
     fi
     meanings=$((meanings + 1))
 done < <(grep -E '^\| [0-9]+ \| ' docs/RULES.md)
-[ "$meanings" -eq 28 ] || { echo "the rules have $meanings numbers"; exit 1; }
+[ "$meanings" -eq 30 ] || { echo "the rules have $meanings numbers"; exit 1; }
 
 # So do those of the board and of the sending call, which each stand in one sentence of the rules; an example says them too.
 # $1 is how many there are, $2 the example, $3 what stands there before the words and $4 behind them, $5 the sentence.
@@ -117,7 +131,8 @@ must_fail 'does not say of 40' example_says 1 examples/board.c 'case N: return "
 # The archive has these calls and no others, and needs no more than this.
 calls=$(nm -g --defined-only "$archive" | awk '$2 == "T" { print $3 }' | sort | tr '\n' ' ')
 wanted="hgrpc_active hgrpc_argument hgrpc_argument_count hgrpc_board_apply hgrpc_board_first hgrpc_board_label \
-hgrpc_board_switch hgrpc_check hgrpc_feed hgrpc_finish hgrpc_fresh hgrpc_integer hgrpc_loose hgrpc_name hgrpc_row hgrpc_send "
+hgrpc_board_switch hgrpc_check hgrpc_convert hgrpc_feed hgrpc_finish hgrpc_fresh hgrpc_integer hgrpc_loose hgrpc_name \
+hgrpc_row hgrpc_send hgrpc_whole "
 needs=$(nm -u "$archive" | awk '$1 == "U" { print $2 }' | sort | tr '\n' ' ')
 [ "$calls" = "$wanted" ] || { echo "the archive has the calls $calls"; exit 1; }
 [ "$needs" = "memcpy memset " ] || { echo "the archive needs $needs"; exit 1; }

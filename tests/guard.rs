@@ -2,9 +2,9 @@
 //! touched: right before it, and right behind it. A read or write outside the
 //! lent bytes ends the program by a signal.
 //!
-//!     guard run SEED SESSIONS COMMANDS SENDS BOARDS   answers are held to the second implementation
-//!     guard over                                      one byte more of each buffer than there is ends the program
-//!     guard lend BUFFER                               lends one byte more of BUFFER, for `over`
+//!     guard run SEED SESSIONS COMMANDS SENDS BOARDS LOGS   answers are held to the second implementation
+//!     guard over                                           one byte more of each buffer than there is ends the program
+//!     guard lend BUFFER                                    lends one byte more of BUFFER, for `over`
 
 #[path = "guard/met.rs"]
 mod met;
@@ -77,7 +77,7 @@ fn sent(seed: u64, index: u64) -> [String; 2] {
     [generate::sending(seed, index).line(), "tail".to_string()]
 }
 
-fn run([seed, sessions, commands, sends, boards]: [u64; 5]) {
+fn run([seed, sessions, commands, sends, boards, logs]: [u64; 6]) {
     let mut sides = Sides {
         drivers: EDGES.map(Driver::new),
         second: Replay::default(),
@@ -89,7 +89,8 @@ fn run([seed, sessions, commands, sends, boards]: [u64; 5]) {
         .chain((0..sessions).flat_map(|index| generate::session(seed, index)))
         .chain((0..commands).flat_map(|index| lookups(seed, index)))
         .chain((0..sends).flat_map(|index| sent(seed, index)))
-        .chain((0..boards).flat_map(|index| generate::board_step(seed, index).lines()));
+        .chain((0..boards).flat_map(|index| generate::board_step(seed, index).lines()))
+        .chain((0..logs).flat_map(|index| generate::conversion(seed, index).lines()));
     lines.for_each(|line| sides.line(&line));
     EDGES.into_iter().for_each(other_states);
     EDGES.into_iter().for_each(row_lengths);
@@ -99,7 +100,7 @@ fn run([seed, sessions, commands, sends, boards]: [u64; 5]) {
         fail(&format!("{missing} never came up"));
     }
     let answers = sides.answers;
-    println!("guard: {sessions} sessions, {commands} commands, {sends} sends, {boards} commands for a board, {answers} answers at each edge, no byte outside touched");
+    println!("guard: {sessions} sessions, {commands} commands, {sends} sends, {boards} commands for a board, {logs} logs, {answers} answers at each edge, no byte outside touched");
 }
 
 /// States of other lengths than a state has: 3, or 2 if the work area is too
@@ -224,11 +225,11 @@ fn main() {
     let words: Vec<&str> = arguments.iter().map(String::as_str).collect();
     let number = |word: &str| word.parse().expect("a number");
     match words[..] {
-        ["run", seed, sessions, commands, sends, boards] => {
-            run([seed, sessions, commands, sends, boards].map(number))
+        ["run", seed, sessions, commands, sends, boards, logs] => {
+            run([seed, sessions, commands, sends, boards, logs].map(number))
         }
         ["over"] => over::each(),
         ["lend", buffer] => over::lend(buffer),
-        _ => fail("run SEED SESSIONS COMMANDS SENDS BOARDS, over or lend BUFFER"),
+        _ => fail("run SEED SESSIONS COMMANDS SENDS BOARDS LOGS, over or lend BUFFER"),
     }
 }

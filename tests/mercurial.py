@@ -28,11 +28,12 @@ except ImportError:
 
 REPLAY = os.path.join(os.path.dirname(os.path.abspath(__file__)), 'replay')
 LONGEST_COMMAND = 2048
+LARGEST_SIZE = 4096
 LARGEST_OUTPUT = 100000
 # What must come up, at least once in each hundred requests.
 SHAPES = (
     'one command frame', 'several command frames', 'no data', 'empty data', 'one data frame', 'several data frames',
-    'a full last data frame', 'no arguments', 'set', 'array', 'map', 'size 1', 'size 4096', 'wide heads', 'begin', 'no begin',
+    'a full last data frame', 'no arguments', 'set', 'array', 'map', 'size 1', 'largest size', 'wide heads', 'begin', 'no begin',
     'end', 'no end',
 )
 
@@ -127,7 +128,7 @@ class Request:
             self.pairs = self.encoded(chance)
             if len(self.name) + len(self.pairs) + 16 <= LONGEST_COMMAND:
                 break
-        self.size = chance.choice((1, 2, 16, 64, 255, 1000, 4095, 4096, 4096, chance.randrange(1, 4097)))
+        self.size = chance.choice((1, 2, 16, 64, 255, 1000, LARGEST_SIZE - 1, LARGEST_SIZE, LARGEST_SIZE, chance.randint(1, LARGEST_SIZE)))
         most = min(3 * self.size, LARGEST_OUTPUT // 12)
         lengths = (0, min(self.size, most), most, chance.randrange(1, most + 1), chance.randrange(1, most + 1))
         self.data = None if chance.randrange(3) == 0 else chance.randbytes(chance.choice(lengths))
@@ -153,7 +154,7 @@ class Request:
             'one command frame': commands == 1, 'several command frames': commands > 1, 'no data': not data,
             'empty data': data == [0], 'one data frame': len(data) == 1 and data != [0], 'several data frames': len(data) > 1,
             'a full last data frame': bool(data) and data[-1] == self.size, 'no arguments': not self.args, 'set': set in types,
-            'array': list in types, 'map': dict in types, 'size 1': self.size == 1, 'size 4096': self.size == 4096,
+            'array': list in types, 'map': dict in types, 'size 1': self.size == 1, 'largest size': self.size == LARGEST_SIZE,
             'wide heads': self.wide > 0 and bool(self.args), 'begin': self.begin, 'no begin': not self.begin,
             'end': self.end, 'no end': not self.end,
         }
@@ -248,7 +249,7 @@ def main():
     figures = (
         '%d requests to %d reactors' % (count, len(sessions)), '%d frames' % total_frames, '%d bytes' % total_bytes,
         '%d with data, %d of them empty' % (count - met['no data'], met['empty data']),
-        '%d in frames of 1 byte and %d of 4,096' % (met['size 1'], met['size 4096']),
+        '%d in frames of 1 byte and %d of 4,096' % (met['size 1'], met['largest size']),
     )
     print('mercurial.py: %s: each read as asked for' % ', '.join(figures))
 

@@ -17,6 +17,30 @@ lines_of() { "$receive" <"$1"; }
 "$out/programs" samples "$receive" crates/receive/stdin
 must_fail 'and not$' "$wrong_quotes/programs" samples "$receive" crates/receive/stdin
 
+# Data of as many bytes as a frame can have is written whole: as text, which fills one line with a byte for each, and in hex,
+# with two for each. $1 is one byte of it, $2 what stands for it, and $3 what stands before the quotes.
+long_line() {
+    {
+        printf '\x10\0\0\1\0\1\1\x19\xa2\x44name\x43set\x44args\xa0'
+        printf '\xff\xff\0\1\0\1\2\x22'
+        printf '%*s' "$length" '' | tr ' ' "$1"
+    } >"$out/long.capture"
+    {
+        echo "command 1 data 1 loose 0 name 'set' args {}"
+        printf 'data 1 last 1 %d bytes %s' "$length" "$3'"
+        printf "$2%.0s" $(seq "$length")
+        echo "'"
+    } >"$out/long.lines"
+    "$receive" "$out/long.capture" | cmp - "$out/long.lines"
+    "$receive" <"$out/long.capture" | cmp - "$out/long.lines"
+    "$out/programs" samples "$receive" "$out/long.capture"
+}
+length=$(sed -n 's/^#define HGRPC_PAYLOAD_LONGEST \([0-9]*\) .*/\1/p' include/hgrpc.h)
+long_line x x ''
+long_line '\0' 00 h
+[ "$("$receive" "$out/long.capture" | tail -n 1 | sed "s/.*h'//" | tr -d "'\n" | wc -c)" -eq $((2 * length)) ]
+must_fail 'and not$' "$wrong_cut/programs" samples "$receive" "$out/long.capture"
+
 # One file is read as standard input is. Of several, each is a channel of its own below its name, a refused one and an empty one too.
 damaged=samples/damaged.capture laptops=samples/two-laptops.capture
 for capture in samples/*.capture; do

@@ -10,7 +10,8 @@
 mod tally;
 
 use generate::{Random, Sending};
-use hgrpc::{records, send, Kind, Record, Request, OUTPUT, WORK};
+use hgrpc::{records, send, Kind, Record, Request};
+use hgrpc::{COMMAND_LONGEST, OUTPUT, RECORD_HEAD, WORK};
 use second::bytes;
 use second::command::loose;
 use second::sender;
@@ -81,7 +82,7 @@ fn ready(sending: &Sending, random: &mut Random, tally: &mut Tally) -> State {
     for (seat, place) in seats[..used].iter().zip(1..) {
         let phase = random.pick(&[Phase::Collecting, Phase::Waiting, Phase::Running]);
         let length = match phase {
-            Phase::Collecting => random.below(2049) as u64,
+            Phase::Collecting => random.between(0, COMMAND_LONGEST) as u64,
             _ => 0,
         };
         state.slots[*seat] = Slot {
@@ -157,9 +158,12 @@ fn judge(sending: &Sending, joined: &[u8], tally: &mut Tally) -> Result<(), Stri
     must(first.bit == sending.data.is_some(), "another data bit came")?;
     mark(sending, &first, tally)?;
     let rest: Vec<_> = read.collect();
-    let lengths: usize = rest.iter().map(|record| 7 + record.bytes.len()).sum();
+    let lengths: usize = rest
+        .iter()
+        .map(|record| RECORD_HEAD + record.bytes.len())
+        .sum();
     must(
-        7 + first.bytes.len() + lengths == joined.len(),
+        RECORD_HEAD + first.bytes.len() + lengths == joined.len(),
         "a broken record came",
     )?;
     let mut data: Vec<u8> = Vec::new();

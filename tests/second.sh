@@ -9,10 +9,13 @@ build_second
 rust_program tests/sessions.rs "$out/sessions" "$out"
 rust_program tests/second_replay.rs "$out/second_replay" "$out"
 rust_program tests/programs.rs "$out/programs" "$out"
+rust_program tests/logs.rs "$out/logs" "$out"
 
 # Wrong senders, and wrong boards, built while the rest goes on.
 declare -A wrong_senders=(
-    [size_of_4097]='s/1\.\.=PAYLOAD as u64/1..=4097/'
+    [size_of_4097]='s/1\.\.=SIZE/1..=4097/'
+    [size_of_4095]='s/1\.\.=SIZE/1..=4095/'
+    [size_of_a_payload]='s/1\.\.=SIZE/1..=crate::frame::PAYLOAD as u64/'
     [even_stream]='s/ || request\.stream % 2 == 0//'
     [length_first]='s/(52, |request| command::check(&request\.command()) != 0)/(53, |request| request.command().len() > COMMAND_BYTES)/; t; s/(53, |request| request\.command()\.len() > COMMAND_BYTES)/(52, |request| command::check(\&request.command()) != 0)/'
     [longest_of_2049]='s/len() > COMMAND_BYTES/len() > 2049/'
@@ -123,6 +126,56 @@ declare -A wrong_lamps=(
     [high_byte_first]='s/slot\.id\.to_le_bytes()/slot.id.to_be_bytes()/'
 )
 
+# Wrong sizes of E7: what the receiver takes, where it puts it, how much output it asks for, and rule 3's limits.
+declare -A wrong_sizes=(
+    [longest_record_of_65543]='s/BODY_HEAD + PAYLOAD;/BODY_HEAD + PAYLOAD - 1;/'
+    [longest_record_of_65545]='s/BODY_HEAD + PAYLOAD;/BODY_HEAD + PAYLOAD + 1;/'
+    [payload_of_65534]='s/65_535/65_534/'
+)
+declare -A wrong_takings=(
+    [payload_of_65536]='s/claimed(&self\.under_way) > PAYLOAD/claimed(\&self.under_way) > PAYLOAD + 1/'
+    [payload_of_4096]='s/claimed(&self\.under_way) > PAYLOAD/claimed(\&self.under_way) > 4096/'
+    [slots_from_65544]='s/^    FRAME_PLACES + seat/    FRAME_PLACES + 1 + seat/'
+    [length_of_two_bytes]='s/log::write(&\[log::Record { kind, body: &body }\])/[\&(body.len() as u16).to_le_bytes()[..], \&kind, \&body].concat()/'
+    [kind_before_length]='s/log::write(&\[log::Record { kind, body: &body }\])/[\&kind[..], \&(body.len() as u32).to_le_bytes(), \&body].concat()/'
+)
+declare -A wrong_limits=(
+    [pending_of_65541]='s/PENDING: u64 = FRAME_PLACES as u64 - 1/PENDING: u64 = FRAME_PLACES as u64 - 2/'
+    [pending_of_65543]='s/PENDING: u64 = FRAME_PLACES as u64 - 1/PENDING: u64 = FRAME_PLACES as u64/'
+    [pending_of_the_longest_record]='s/PENDING: u64 = FRAME_PLACES as u64 - 1/PENDING: u64 = crate::frame::RECORD as u64/'
+    [held_length_of_65536]='s/held > PAYLOAD/held > PAYLOAD + 1/'
+    [held_length_of_4096]='s/held > PAYLOAD/held > 4096/'
+    [area_of_81926]='s/SLOTS \* COMMAND_BYTES;/SLOTS * COMMAND_BYTES - 1;/'
+    [area_of_20488]='s/^pub const WORK: usize = .*/pub const WORK: usize = 20488;/'
+)
+# Wrong converters, and wrong places of a broken record.
+declare -A wrong_logs=(
+    [length_of_two_bytes]='s/(record\.body\.len() as u32)/(record.body.len() as u16)/'
+    [length_of_one_byte]='s/(record\.body\.len() as u32)/(record.body.len() as u8 as u32)/'
+    [high_byte_first]='s/as u32)\.to_le_bytes()/as u32).to_be_bytes()/'
+    [old_high_byte_first]='s/let low_last = length\.iter()\.rev();/let low_last = length.iter();/'
+    [head_counted_as_body]='s/as u32)\.to_le_bytes()/as u32 + 2).to_le_bytes()/'
+    [kind_swapped]='s/record\.kind\.to_vec()/[record.kind[1], record.kind[0]].to_vec()/'
+    [kind_of_one_byte]='s/record\.kind\.to_vec()/vec![record.kind[0], 0]/'
+    [kinds_of_records_alone]='s/let kind = kind\.try_into()\.ok()?;/if !matches!(kind, [1 | 2, 0]) { return None; } &/'
+    [short_before_broken]='s/let log = read(log, OLD);/if output.len() < log.len() { return refused(71); } &/'
+    [last_end_not_looked_at]='s/behind\.split_at_checked(length)?/behind.split_at(length.min(behind.len()))/'
+    [last_length_not_looked_at]='s/if !log\.broken\.is_empty() {/if log.broken.len() >= KIND + OLD {/'
+    [whole_part_converted]='s/if !log\.broken\.is_empty() {/if log.records.is_empty() \&\& !log.broken.is_empty() {/'
+    [empty_log_refused]='s/if !log\.broken\.is_empty() {/if log.records.is_empty() || !log.broken.is_empty() {/'
+    [empty_body_left_out]='s/records\.iter()\.flat_map/records.iter().filter(|record| !record.body.is_empty()).flat_map/'
+    [total_of_the_old]='s/let Some(front) = /if output.len() < converted.len() - 2 * log.records.len() { return refused(71); } let wanted = converted.len().min(output.len()); &/; s/output\.get_mut(\.\.converted\.len())/output.get_mut(..wanted)/; s/copy_from_slice(&converted)/copy_from_slice(\&converted[..wanted])/'
+    [total_less_by_1]='s/let Some(front) = /let wanted = converted.len().saturating_sub(1); &/; s/output\.get_mut(\.\.converted\.len())/output.get_mut(..wanted)/; s/copy_from_slice(&converted)/copy_from_slice(\&converted[..wanted])/'
+    [total_more_by_1]='s/let Some(front) = /if output.len() == converted.len() { return refused(71); } &/'
+    [refused_touched]='s/return refused(70);/output.iter_mut().take(1).for_each(|byte| *byte = 0); &/'
+    [short_touched]='s/let converted = write(&log\.records);/& output.iter_mut().zip(\&converted).for_each(|(out, byte)| *out = *byte);/'
+    [refused_written]='s/Converted { number, written: 0 }/Converted { number, written: 1 }/'
+    [tail_touched]='s/front\.copy_from_slice(&converted);/& if let Some(byte) = output.get_mut(converted.len()) { *byte = 0; }/'
+    [place_behind_the_head]='s/broken\.len()$/broken.len().saturating_sub(OLD + KIND)/'
+    [place_of_the_end]='s/broken\.len()$/broken.len() * 0/'
+    [place_of_the_last_record]='s/log\.len() - read(log, OLD)\.broken\.len()$/{ let log = read(log, OLD); log.records[..log.records.len().saturating_sub(1)].iter().map(|record| OLD + KIND + record.body.len()).sum() }/'
+)
+
 (
     make_wrong_lines wrong_senders sender.rs
     make_wrong_lines wrong_boards board.rs
@@ -132,12 +185,15 @@ declare -A wrong_lamps=(
     make_wrong_lines wrong_counts receiver.rs
     make_wrong_lines wrong_shapes state.rs
     make_wrong_lines wrong_lamps lamp.rs
+    make_wrong_lines wrong_sizes frame.rs
+    make_wrong_lines wrong_takings receiver.rs
 ) &
 wrong_copies=$!
 children+=("$wrong_copies")
 wrongs=$((wrongs + ${#wrong_senders[@]} + ${#wrong_boards[@]} + ${#wrong_layouts[@]} \
     + ${#wrong_searches[@]} + ${#wrong_far_searches[@]} \
-    + ${#wrong_counts[@]} + ${#wrong_shapes[@]} + ${#wrong_lamps[@]}))
+    + ${#wrong_counts[@]} + ${#wrong_shapes[@]} + ${#wrong_lamps[@]} \
+    + ${#wrong_sizes[@]} + ${#wrong_takings[@]} + ${#wrong_limits[@]} + ${#wrong_logs[@]}))
 
 "$out/sessions" traces
 "$out/sessions" check 1 "$sessions"
@@ -221,6 +277,7 @@ wrong_bytes high_byte_first 's/&number\.to_le_bytes()\[\.\.count\]/\&number.to_b
 wrong_bytes data_before_phase 's/bytes\.push(slot\.phase as u8);/bytes.push(slot.data.into());/; t; s/bytes\.push(slot\.data\.into());/bytes.push(slot.phase as u8);/; s/match bytes\[2\]/match bytes[3]/; s/flag(&bytes\[3\])/flag(\&bytes[2])/'
 wrong_bytes fifth_phase 's/3 => Phase::Running/3.. => Phase::Running/'
 wrong_bytes bool_of_two 's/1 => Some(true)/1.. => Some(true)/'
+wrong_bytes third_byte_of_pending_ignored 's/pending: little(&plain\[1\.\.\])/pending: little(\&plain[1..3])/'
 # What no line shows: the count at another place of the bytes, and a row that is too short by one byte.
 wrong_copy count_before_streams bytes.rs 's/^    let open = |index/bytes.push(state.count); &/; s/^    bytes\.push(state\.count);$//; s/let (streams, count) = rest\.split_at(STREAMS)/let (count, streams) = rest.split_at(1)/'
 wrong_copy row_of_23 lamp.rs 's/length < ROW/length < ROW - 1/'
@@ -234,8 +291,13 @@ wrong_quotes=$copy
 wrong_copy loose_not_finished capture.rs 's/self\.bit == 0/self.bit + self.loose == 0/'
 rust_program tests/programs.rs "$copy/programs" "$copy"
 wrong_finish=$copy
-wrong_copy mark_not_shown capture.rs 's/loose: record\[6\] \/ 2/loose: 0/'
+wrong_copy mark_not_shown capture.rs 's/loose: head\[2\] \/ 2/loose: 0/'
 rust_program tests/programs.rs "$copy/programs" "$copy"
 wrong_shown=$copy
+wrong_copy line_cut capture.rs 's/let (count, bytes) = (self\.content\.len(), byte_string(self\.content));/let mut bytes = byte_string(self.content); bytes.truncate(131_072); let count = self.content.len();/'
+rust_program tests/programs.rs "$copy/programs" "$copy"
+wrong_cut=$copy
+make_wrong_lines wrong_limits state.rs
+make_wrong_lines wrong_logs log.rs
 wait "$wrong_copies"
 children=()

@@ -7,7 +7,8 @@
 //!
 //! `check` also counts what the sessions meet, and fails if one of the
 //! things it counts comes up less than 20 times; of a count that is one too
-//! high or one too low, less than 100 times.
+//! high or one too low, less than 100 times; of data of 4,097 to 65,535 bytes,
+//! less than 200 times.
 
 #[path = "sessions/counts.rs"]
 mod counts;

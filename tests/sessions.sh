@@ -19,8 +19,12 @@ compare_sessions() {
     done
 }
 
+# A wrong size is found out by the lines of the first file.
 answered=0
 answers=$out
+for copy in "$out"/wrong/wrong_{sizes,takings,limits}/*; do
+    must_fail '^replay differs' compare_lines tests/replay_lines/requests.txt "$copy/second_replay"
+done
 compare_sessions 1 1
 
 # A wrong receiver, a wrong count and a wrong answer to the panel is found out by the first of them.

@@ -17,7 +17,7 @@ mod real;
 #[path = "states/tally.rs"]
 mod tally;
 
-use calls::Calls;
+use calls::{Calls, Lent};
 use generate::Random;
 use real::{real_states, Real};
 use second::bytes::{self, COUNT_AT, STATE, STREAMS_AT};
@@ -26,13 +26,13 @@ use std::thread;
 use tally::Tally;
 
 /// Every change of one byte.
-fn single_changes(real: &Real, calls: &mut Calls) -> Result<(), String> {
+fn single_changes(real: &Real, lent: &mut Lent, calls: &mut Calls) -> Result<(), String> {
     for place in 0..STATE {
         for step in 1..=255 {
             let mut bytes = real.state.clone();
             bytes[place] = bytes[place].wrapping_add(step);
             calls
-                .hold(&bytes, &real.work)
+                .hold(&bytes, lent)
                 .map_err(|reason| format!("{}, byte {place} plus {step}: {reason}", real.kind))?;
         }
     }
@@ -40,7 +40,12 @@ fn single_changes(real: &Real, calls: &mut Calls) -> Result<(), String> {
 }
 
 /// Some bytes changed at once, mostly by little.
-fn several_changes(real: &Real, random: &mut Random, calls: &mut Calls) -> Result<(), String> {
+fn several_changes(
+    real: &Real,
+    lent: &mut Lent,
+    random: &mut Random,
+    calls: &mut Calls,
+) -> Result<(), String> {
     let mut bytes = real.state.clone();
     for _ in 0..random.between(2, 6) {
         let place = match random.below(12) {
@@ -52,13 +57,13 @@ fn several_changes(real: &Real, random: &mut Random, calls: &mut Calls) -> Resul
         bytes[place] = random.pick(&[0, 1, 1, 2, 3, 4, 8, 16, any]);
     }
     calls
-        .hold(&bytes, &real.work)
+        .hold(&bytes, lent)
         .map_err(|reason| format!("{}, changed to {bytes:02x?}: {reason}", real.kind))
 }
 
 /// Bytes at random: any, or small ones, which are often a state. The count of a
 /// state is then mostly right.
-fn random_bytes(work: &[u8], random: &mut Random, calls: &mut Calls) -> Result<(), String> {
+fn random_bytes(lent: &mut Lent, random: &mut Random, calls: &mut Calls) -> Result<(), String> {
     let largest = random.pick(&[255, 255, 4, 3, 2, 1, 1, 1]);
     let mut bytes: Vec<u8> = (0..STATE)
         .map(|_| random.between(0, largest) as u8)
@@ -67,7 +72,7 @@ fn random_bytes(work: &[u8], random: &mut Random, calls: &mut Calls) -> Result<(
         bytes[COUNT_AT] = state.used().count() as u8;
     }
     calls
-        .hold(&bytes, work)
+        .hold(&bytes, lent)
         .map_err(|reason| format!("{bytes:02x?}: {reason}"))
 }
 
@@ -75,15 +80,17 @@ fn random_bytes(work: &[u8], random: &mut Random, calls: &mut Calls) -> Result<(
 fn share(seed: u64, states: &[Real], random_count: u64) -> Result<Tally, String> {
     let mut calls = Calls::new(seed);
     let random = &mut Random::new(seed);
-    for real in states {
-        calls.hold(&real.state, &real.work)?;
-        calls.other_lengths(real)?;
-        single_changes(real, &mut calls)?;
+    let mut buffers: Vec<Lent> = states.iter().map(|real| Lent::new(&real.work)).collect();
+    for (real, lent) in states.iter().zip(&mut buffers) {
+        calls.hold(&real.state, lent)?;
+        calls.other_lengths(real, lent)?;
+        single_changes(real, lent, &mut calls)?;
     }
     for _ in 0..random_count {
-        let real = &states[random.below(states.len())];
-        several_changes(real, random, &mut calls)?;
-        random_bytes(&real.work, random, &mut calls)?;
+        let place = random.below(states.len());
+        let (real, lent) = (&states[place], &mut buffers[place]);
+        several_changes(real, lent, random, &mut calls)?;
+        random_bytes(lent, random, &mut calls)?;
     }
     Ok(calls.tally)
 }

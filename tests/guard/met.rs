@@ -1,12 +1,27 @@
 //! What must come up in a run: every answer of every call, and the lengths at
 //! which buffers are too short or just long enough.
 
+use hgrpc::{OUTPUT, WORK};
+use second::state::FRAME_PLACES;
 use std::collections::BTreeSet;
 
+/// One record with the longest body.
+pub const LONGEST_LOG: usize = 2 + 2 + u16::MAX as usize;
+
 /// The answers that begin with a number.
-const NUMBERED: [&str; 11] = [
-    "fed", "finished", "active", "row", "checked", "named", "argument", "integer", "sent",
-    "counted", "loose",
+const NUMBERED: [&str; 12] = [
+    "fed",
+    "finished",
+    "active",
+    "row",
+    "checked",
+    "named",
+    "argument",
+    "integer",
+    "sent",
+    "converted",
+    "counted",
+    "loose",
 ];
 
 #[derive(Default)]
@@ -44,6 +59,12 @@ impl Met {
                 self.see("command", spelled(command));
                 self.see("key", spelled(key));
             }
+            ("converted", [_, length, log]) => self.converted(&told, length, log),
+            ("whole", [_, log]) => {
+                let whole = told[1].parse() == Ok(spelled(log));
+                self.see_if(whole, "whole");
+                self.see_if(!whole, "broken");
+            }
             ("sent", [_, length, name, _, pairs, .., data]) => {
                 self.see("name", spelled(name));
                 self.see("pairs", spelled(pairs));
@@ -51,11 +72,21 @@ impl Met {
                 if *data != "none" {
                     self.see("data", spelled(data));
                 }
-                if told[2] == *length && told[1] == "0" {
-                    self.see("filled", 1);
-                }
+                self.see_if(told[1] == "0" && told[2] == *length, "filled");
             }
             _ => {}
+        }
+    }
+
+    fn converted(&mut self, told: &[&str], length: &str, log: &str) {
+        self.see("log", spelled(log));
+        self.see("new log", length.parse().expect("a number"));
+        self.see_if(told[1] == "0" && told[2] == length, "new log filled");
+    }
+
+    fn see_if(&mut self, met: bool, what: &str) {
+        if met {
+            self.see(what, 1);
         }
     }
 
@@ -65,38 +96,59 @@ impl Met {
 
     /// Something that must come up and did not.
     pub fn missing(&self) -> Option<String> {
-        let fed = [0, 1, 2, 3, 5].into_iter().chain(11..=29).collect();
-        let finished = [0, 3, 4].into_iter().chain(11..=29).collect();
-        let wanted: [(&str, Vec<usize>); 24] = [
-            ("fed", fed),
-            ("finished", finished),
-            ("active", vec![0, 3]),
-            ("row", vec![0, 3, 9]),
-            ("entries", vec![0, 1, 7, 8, 9]),
-            ("checked", vec![0, 24, 25, 26]),
-            ("named", vec![0, 24, 25, 26]),
-            ("argument", vec![0, 24, 25, 26, 6]),
-            ("integer", vec![0, 24, 25, 26, 6, 7, 8]),
-            ("work", vec![0, 1, 7, 8, 4104, 20_487, 20_488, 20_489]),
-            ("output", vec![0, 1, 4102, 4103, 4104]),
-            ("input", vec![0, 1, 7, 8, 9]),
-            ("command", vec![0, 1]),
-            ("key", vec![0, 1]),
-            ("sent", vec![0, 50, 51, 52, 53, 54]),
-            ("name", vec![0, 1, 64, 65]),
-            ("pairs", vec![0]),
-            ("data", vec![0, 1]),
-            ("frames", vec![0, 1, 7, 8]),
-            ("filled", vec![1]),
-            ("counted", vec![0, 1, 2]),
-            ("loose", vec![0, 1]),
-            ("board", vec![0, 24, 25, 26, 40, 41, 42, 43]),
-            ("applied", vec![10, 26]),
-        ];
-        let mut wanted = wanted
-            .into_iter()
-            .flat_map(|(what, numbers)| numbers.into_iter().map(move |n| (what.to_string(), n)));
-        let missing = wanted.find(|entry| !self.seen.contains(entry))?;
-        Some(format!("{} {}", missing.0, missing.1))
+        let mut wanted = channel().into_iter().chain(others());
+        let missing = wanted.find_map(|(what, numbers)| {
+            let seen = |number: &usize| self.seen.contains(&(what.to_string(), *number));
+            let mut numbers = numbers.into_iter();
+            Some((what, numbers.find(|number| !seen(number))?))
+        });
+        missing.map(|(what, number)| format!("{what} {number}"))
     }
+}
+
+/// What must come up of the channel's calls.
+fn channel() -> [(&'static str, Vec<usize>); 8] {
+    let fed = [0, 1, 2, 3, 5].into_iter().chain(11..=29).collect();
+    let finished = [0, 3, 4].into_iter().chain(11..=29).collect();
+    [
+        ("fed", fed),
+        ("finished", finished),
+        ("active", vec![0, 3]),
+        ("row", vec![0, 3, 9]),
+        ("entries", vec![0, 1, 7, 8, 9]),
+        (
+            "work",
+            vec![0, 1, 7, 8, FRAME_PLACES, WORK - 1, WORK, WORK + 1],
+        ),
+        ("output", vec![0, 1, OUTPUT - 1, OUTPUT, OUTPUT + 1]),
+        ("input", vec![0, 1, 7, 8, 9, FRAME_PLACES]),
+    ]
+}
+
+/// What must come up of all others.
+fn others() -> [(&'static str, Vec<usize>); 22] {
+    [
+        ("checked", vec![0, 24, 25, 26]),
+        ("named", vec![0, 24, 25, 26]),
+        ("argument", vec![0, 24, 25, 26, 6]),
+        ("integer", vec![0, 24, 25, 26, 6, 7, 8]),
+        ("command", vec![0, 1]),
+        ("key", vec![0, 1]),
+        ("sent", vec![0, 50, 51, 52, 53, 54]),
+        ("name", vec![0, 1, 64, 65]),
+        ("pairs", vec![0]),
+        ("data", vec![0, 1]),
+        ("frames", vec![0, 1, 7, 8]),
+        ("filled", vec![1]),
+        ("converted", vec![0, 70, 71]),
+        ("log", vec![0, 1, 2, 3, 4, 5, LONGEST_LOG]),
+        ("new log", vec![0, 5, 6, LONGEST_LOG + 2]),
+        ("new log filled", vec![1]),
+        ("whole", vec![1]),
+        ("broken", vec![1]),
+        ("counted", vec![0, 1, 2]),
+        ("loose", vec![0, 1]),
+        ("board", vec![0, 24, 25, 26, 40, 41, 42, 43]),
+        ("applied", vec![10, 26]),
+    ]
 }

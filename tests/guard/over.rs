@@ -1,7 +1,9 @@
 //! Calls that need the last byte of each buffer. Where that byte is not there,
 //! since the length lent is one too many, the page behind is touched.
 
+use crate::met::LONGEST_LOG;
 use hgrpc::{raw, BOARD, OUTPUT, REQUESTS, ROW, STATE, WORK};
+use hgrpc::{FRAME_HEAD, RECORD_HEAD, SEND_SIZE_LONGEST};
 use replay_lines::{Edge, Room};
 use second::bytes;
 use second::replay::{state_text, to_hex};
@@ -69,8 +71,11 @@ pub fn lines() -> Vec<String> {
     lines.push(format!("arg {command} 6b"));
     lines.push(format!("name {command}"));
     let [name, pairs, data] = [NAME, PAIRS, &DATA].map(to_hex);
-    let send = format!("send {TOTAL} {name} 1 {pairs} 1 1 1 1 4096 {data}");
+    let send = format!("send {TOTAL} {name} 1 {pairs} 1 1 1 1 {SEND_SIZE_LONGEST} {data}");
     lines.extend([send, "tail".to_string()]);
+    let log = to_hex(&longest_log());
+    let convert = format!("convert {} {log}", LONGEST_LOG + 2);
+    lines.extend([convert, "tail".to_string(), format!("whole {log}")]);
     lines.extend([format!("board {}", to_hex(LABEL)), "board".to_string()]);
     lines
 }
@@ -125,7 +130,7 @@ fn feeds(over: &str) {
             )
         };
         assert_eq!((number, taken), (0, frame.len()));
-        assert_eq!(written, 7 + frame.len() - 8);
+        assert_eq!(written, RECORD_HEAD + frame.len() - FRAME_HEAD);
     }
     assert_eq!(state.length, STATE);
 }
@@ -181,8 +186,8 @@ fn marks(over: &str) {
 /// a longest data frame.
 const NAME: &[u8] = b"set";
 const PAIRS: &[u8] = b"\x41k\x05";
-const DATA: [u8; hgrpc::PAYLOAD_LONGEST] = [9; hgrpc::PAYLOAD_LONGEST];
-const TOTAL: usize = 2 * hgrpc::FRAME_HEAD + 16 + PAIRS.len() + DATA.len();
+const DATA: [u8; SEND_SIZE_LONGEST] = [9; SEND_SIZE_LONGEST];
+const TOTAL: usize = 2 * FRAME_HEAD + 16 + PAIRS.len() + DATA.len();
 
 fn sends(over: &str) {
     let mut name = Lent::new("name", NAME, over);
@@ -202,7 +207,7 @@ fn sends(over: &str) {
             1,
             true,
             true,
-            hgrpc::PAYLOAD_LONGEST,
+            SEND_SIZE_LONGEST,
             true,
             data.pointer(),
             data.length,
@@ -212,6 +217,37 @@ fn sends(over: &str) {
         )
     };
     assert_eq!((number, written), (0, TOTAL));
+}
+
+/// A stored log of one record with the longest body, whose last byte is the log's.
+fn longest_log() -> Vec<u8> {
+    [&[0xff, 0xff, 2, 0][..], &vec![9; LONGEST_LOG - 4]].concat()
+}
+
+/// The log's last byte is converted to the output's. To tell how much of a log is
+/// whole, its lengths alone are needed: here all of a record is not there.
+fn logs(over: &str) {
+    let mut log = Lent::new("log", &longest_log(), over);
+    let mut output = Lent::new("new log", &vec![0; LONGEST_LOG + 2], over);
+    let mut whole = Lent::new("whole", &[0; 4], over);
+    if over == "whole" {
+        whole.there = 0;
+    }
+    let mut written = 0;
+    // As above, and one with four bytes too many.
+    let (number, count) = unsafe {
+        (
+            raw::hgrpc_convert(
+                log.pointer(),
+                log.length,
+                output.pointer(),
+                output.length,
+                &mut written,
+            ),
+            raw::hgrpc_whole(whole.pointer(), whole.length),
+        )
+    };
+    assert_eq!((number, written, count), (0, LONGEST_LOG + 2, 4));
 }
 
 /// A label that fills the places of the last coil, which end the board; the last
@@ -249,14 +285,16 @@ pub fn lend(over: &str) {
     marks(over);
     boards(over);
     sends(over);
+    logs(over);
 }
 
 /// Makes them with each buffer in turn, in a program of its own, which a touched
 /// page must end; and with none, which must come to its end.
 pub fn each() {
-    const BUFFERS: [&str; 18] = [
+    const BUFFERS: [&str; 21] = [
         "none", "state", "work", "input", "output", "counted", "told", "row", "command", "key",
-        "marked", "name", "pairs", "data", "frames", "board", "applied", "first",
+        "marked", "name", "pairs", "data", "frames", "board", "applied", "first", "log", "new log",
+        "whole",
     ];
     for buffer in BUFFERS {
         let program = std::env::current_exe().expect("a program knows its place");

@@ -67,6 +67,7 @@ fn printed(record: &Record, board: &mut Board) -> String {
 /// The second implementation in the board's place.
 struct Site {
     receiver: Receiver,
+    output: Vec<u8>,
     board: Board,
     text: String,
 }
@@ -76,10 +77,9 @@ impl Site {
     /// finished before the rest is offered.
     fn piece(&mut self, mut piece: &[u8]) -> u8 {
         loop {
-            let mut output = [0; RECORD];
-            let fed = self.receiver.feed(piece, &mut output);
+            let fed = self.receiver.feed(piece, &mut self.output);
             if fed.written > 0 {
-                let record = Record::read(&output[..fed.written]);
+                let record = Record::read(&self.output[..fed.written]);
                 self.text += &printed(&record, &mut self.board);
                 if record.is_last() {
                     self.receiver.finish(record.request);
@@ -114,6 +114,7 @@ impl Site {
 fn wanted(mut capture: &[u8]) -> (String, bool) {
     let mut site = Site {
         receiver: Receiver::start(State::fresh(), vec![0; WORK]),
+        output: vec![0; RECORD],
         board: Board::first(),
         text: String::new(),
     };

@@ -1,5 +1,6 @@
 //! How often the lines of `receive` come up, by their kind.
 
+use second::sender::SIZE;
 use std::collections::BTreeMap;
 
 /// How often each kind must come up.
@@ -10,9 +11,9 @@ pub struct Tally {
     counts: BTreeMap<String, u64>,
 }
 
-/// The kinds of lines: records by their bit, commands by their mark too, those with
-/// a redirect, a set, a byte string as text or in hex, the end inside a frame, and
-/// each refusal by its number.
+/// The kinds of lines: records by their bit, commands by their mark too, data of more
+/// bytes than are sent in a frame, those with a redirect, a set, a byte string as text
+/// or in hex, the end inside a frame, and each refusal by its number.
 fn kinds() -> impl Iterator<Item = String> {
     let records = [
         "command data 0 loose 0",
@@ -22,7 +23,7 @@ fn kinds() -> impl Iterator<Item = String> {
         "data last 0",
         "data last 1",
     ];
-    let others = ["redirect", "258", "'", "h'", "the input"];
+    let others = ["large data", "redirect", "258", "'", "h'", "the input"];
     let refusals = (11..=29).map(|number| format!("refused {number}"));
     records
         .into_iter()
@@ -41,7 +42,12 @@ impl Tally {
                 ["command", _, "data", bit, "loose", mark] => {
                     self.count(&format!("command data {bit} loose {mark}"))
                 }
-                ["data", _, "last", bit, ..] => self.count(&format!("data last {bit}")),
+                ["data", _, "last", bit, count, _] => {
+                    self.count(&format!("data last {bit}"));
+                    if count.parse().is_ok_and(|count: u64| count > SIZE) {
+                        self.count("large data");
+                    }
+                }
                 _ => self.count("the input"),
             }
             for part in [" redirect {", "258([", " '", " h'"] {

@@ -3,8 +3,8 @@
 use crate::counts::Counts;
 use generate::{Sending, FAULTS};
 use second::command;
-use second::frame::{claimed, Frame, COMMAND, DATA, HEADER};
-use second::sender::Request;
+use second::frame::{claimed, Frame, COMMAND, COMMAND_BYTES, DATA, HEADER};
+use second::sender::{Request, SIZE};
 use second::value::{read_whole, Value};
 
 const NUMBERS: [u8; 6] = [0, 50, 51, 52, 53, 54];
@@ -139,9 +139,7 @@ impl Coverage {
     /// A request, what it was answered, and the frames that were written.
     pub fn request(&mut self, sending: &Sending, request: &Request, number: u8, frames: &[u8]) {
         self.add_if(true, &number_name(number));
-        let sized = (1..=4096).contains(&request.size);
-        let short = sized && sending.output < sending.total();
-        let length = sending.length();
+        let sized = (1..=SIZE).contains(&request.size);
         match number {
             50 => {
                 let [id, stream] = [request.id % 2 == 0, request.stream % 2 == 0];
@@ -152,23 +150,11 @@ impl Coverage {
             }
             51 => {
                 self.add_if(request.size == 0, "51 for size 0");
-                self.add_if(request.size == 4097, "51 for size 4,097");
+                self.add_if(request.size == SIZE + 1, "51 for size 4,097");
                 self.add_if(request.size >= 1 << 32, "51 for a size of 2^32 or more");
                 self.add_if(!sending.fault.is_empty(), "51 though 52 applies");
             }
-            52 => {
-                let check = command::check(&request.command());
-                self.add_if(true, &format!("52 by the check's {check}"));
-                self.add_if(!sending.fault.is_empty(), &fault_name(sending.fault));
-                self.add_if(length > 2048, "52 of a command longer than 2,048 bytes");
-                self.add_if(length >= 10_000, "52 of a command of 10,000 bytes or more");
-                self.add_if(short, "52 though the output is too short");
-            }
-            53 => {
-                self.add_if(length == 2049, "53 of a command of 2,049 bytes");
-                self.add_if(length >= 10_000, "53 of a command of 10,000 bytes or more");
-                self.add_if(short, "53 though the output is too short");
-            }
+            52 | 53 => self.refused_command(sending, request, number),
             54 => {
                 let missing = sending.total() - sending.output;
                 let data = sending.data.as_ref().map_or(0, Vec::len);
@@ -184,6 +170,27 @@ impl Coverage {
         }
     }
 
+    /// A request that is refused for its command: by the check, or for its length. The
+    /// size is in its range.
+    fn refused_command(&mut self, sending: &Sending, request: &Request, number: u8) {
+        let short = sending.output < sending.total();
+        let length = sending.length();
+        if number == 52 {
+            let check = command::check(&request.command());
+            self.add_if(true, &format!("52 by the check's {check}"));
+            self.add_if(!sending.fault.is_empty(), &fault_name(sending.fault));
+            let long = length > COMMAND_BYTES;
+            self.add_if(long, "52 of a command longer than 2,048 bytes");
+        } else {
+            let one = length == COMMAND_BYTES + 1;
+            self.add_if(one, "53 of a command of 2,049 bytes");
+        }
+        let huge = format!("{number} of a command of 10,000 bytes or more");
+        self.add_if(length >= 10_000, &huge);
+        let both = format!("{number} though the output is too short");
+        self.add_if(short, &both);
+    }
+
     fn accepted(&mut self, sending: &Sending, request: &Request, frames: &[Frame]) {
         let longer = sending.output - sending.total();
         self.add_if(longer == 0, "output exact");
@@ -194,7 +201,7 @@ impl Coverage {
         let data = request.data.is_some();
         self.add_if(request.size == 1, "size 1");
         self.add_if(request.size == 1 && data, "size 1 with data");
-        self.add_if(request.size == 4096, "size 4,096");
+        self.add_if(request.size == SIZE, "size 4,096");
         for length in [23, 24, 64] {
             let met = request.name.len() == length;
             self.add_if(met, &format!("name of {length} bytes"));
@@ -212,7 +219,7 @@ impl Coverage {
         self.add_if(true, &format!("{how} pairs {with} data"));
         let tree = read_whole(&command).expect("it passes the check");
         self.add_if(levels(&tree) == 8, "value of six levels");
-        self.add_if(command.len() == 2048, "command of 2,048 bytes");
+        self.add_if(command.len() == COMMAND_BYTES, "command of 2,048 bytes");
         self.add_if(request.id > 255, "request id above 255");
     }
 
@@ -252,7 +259,8 @@ impl Coverage {
             more && several,
             "several command frames and several data frames",
         );
-        self.add_if(more && full == 4096, "size 4,096 with several data frames");
+        let largest = more && request.size == SIZE;
+        self.add_if(largest, "size 4,096 with several data frames");
     }
 
     fn streams(&mut self, frames: &[Frame]) {

@@ -2,6 +2,7 @@
 //! ready for it.
 
 use second::command;
+use second::frame::BODY_HEAD;
 use second::receiver::Uncut;
 use second::sender::Request;
 use second::state::{State, WORK};
@@ -10,9 +11,10 @@ use second::state::{State, WORK};
 fn records(request: &Request) -> Vec<u8> {
     let mut records = Vec::new();
     let mut add = |kind: u16, third: u8, content: &[u8]| {
-        for number in [3 + content.len() as u16, kind, request.id] {
-            records.extend(number.to_le_bytes());
-        }
+        let length = (BODY_HEAD + content.len()) as u32;
+        records.extend(length.to_le_bytes());
+        records.extend(kind.to_le_bytes());
+        records.extend(request.id.to_le_bytes());
         records.push(third);
         records.extend(content);
     };

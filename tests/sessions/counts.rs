@@ -2,9 +2,12 @@
 
 use crate::coverage::Coverage;
 use crate::watch::{ways, Before, Feed};
-use second::frame::{claimed, COMMAND, CONTINUATION, HEADER, MORE, PAYLOAD, RECORD, SETTINGS};
+use second::frame::{
+    claimed, COMMAND, CONTINUATION, DATA, HEADER, MORE, PAYLOAD, RECORD, SETTINGS,
+};
 use second::receiver::{Event, Receiver};
-use second::state::{plain_ways, Phase, State, SLOTS};
+use second::sender::SIZE;
+use second::state::{plain_ways, Phase, State, PENDING, SLOTS};
 
 /// What the counts must remember from one call to the next.
 #[derive(Default)]
@@ -28,9 +31,10 @@ impl Coverage {
         let used = state.used().next().is_some();
         self.add_if(used, "start with slots in use");
         self.add_if(state.pending > 0, "start in mid-frame");
-        self.add_if(state.pending == 4103, "start with 4,103 bytes pending");
+        let full = state.pending == PENDING;
+        self.add_if(full, "start with 65,542 bytes pending");
         let header = (3..8).contains(&state.pending) && claimed(receiver.work()) > PAYLOAD;
-        let little = "start with a length above 4,096 in less than 8 bytes";
+        let little = "start with a length above 65,535 in less than 8 bytes";
         self.add_if(header, little);
         self.add_if(state.dead != 0, "start dead");
         let both = state.dead != 0 && state.pending > 0;
@@ -66,7 +70,7 @@ impl Coverage {
         self.add_if(passed && feed.input.is_empty(), "empty input");
         self.add_if(passed && feed.input.len() == 1, "input of one byte");
         self.after_last(feed);
-        self.frames(receiver, before);
+        self.frames(receiver, before, feed);
     }
 
     /// What this feed is after the last call.
@@ -100,9 +104,11 @@ impl Coverage {
         let silent = kind == SETTINGS || kind == COMMAND && last & MORE != 0;
         self.add_if(silent, "5 before a frame that writes nothing");
         let short = feed.output - feed.written == RECORD - 1;
-        self.add_if(short, "5 with 4,102 bytes of output left");
+        self.add_if(short, "5 with 65,543 bytes of output left");
+        let long = kind == DATA && is_large(claimed(receiver.work()));
+        self.add_if(long, "5 before the last byte of a large data frame");
         let large = feed.output >= 2 * RECORD;
-        self.add_if(large, "5 with an output of 8,206 or more");
+        self.add_if(large, "5 with an output of 131,088 or more");
     }
 
     /// The refused frame still stands in the work area.
@@ -113,6 +119,11 @@ impl Coverage {
         let left = feed.output - feed.written;
         let little = feed.number == 11 && left < RECORD;
         self.add_if(little, "11 with too little output left for a record");
+        let length = claimed(receiver.work());
+        let one = feed.number == 11 && length == PAYLOAD + 1;
+        self.add_if(one, "65,536 bytes claimed, 11");
+        let large = feed.number > 11 && is_large(length);
+        self.add_if(large, "a large frame refused on its last byte");
         if matches!(feed.number, 24..=26) {
             let again = receiver.work()[7] & CONTINUATION != 0;
             let frame = if again { "continuation" } else { "new frame" };
@@ -120,12 +131,34 @@ impl Coverage {
         }
     }
 
-    fn frames(&mut self, receiver: &Receiver, before: &Before) {
+    /// Where large data frames are cut, and how much output they have.
+    fn large(&mut self, receiver: &Receiver, before: &Before, feed: &Feed) {
+        let pending = before.state.pending as usize;
+        let under_way = receiver.state().pending as usize;
+        let started = (HEADER - 1..=HEADER + 1).contains(&under_way) && feed.taken > 0;
+        let claims = started && under_way >= HEADER && is_large(claimed(receiver.work()));
+        self.add_if(claims, "a large frame cut behind its header");
+        let Some(Event::Frame(frame)) = receiver.history().get(before.events) else {
+            return;
+        };
+        let length = frame.payload().len();
+        if !is_large(length) {
+            return;
+        }
+        let last = pending == HEADER + length - 1;
+        self.add_if(last, "a large frame's last byte alone");
+        self.add_if(pending == 0, "a large frame in one feed");
+        let exact = length == PAYLOAD && feed.output == RECORD;
+        self.add_if(exact, "data of 65,535 bytes, 65,544 bytes of output");
+    }
+
+    fn frames(&mut self, receiver: &Receiver, before: &Before, feed: &Feed) {
         let history = receiver.history();
         let added = history.len() - before.events;
         self.add_if(added > 1, "several frames in one feed");
         let cut = added > 0 && before.state.pending > 0;
         self.add_if(cut, "frame over several feeds");
+        self.large(receiver, before, feed);
         for place in before.events..history.len() {
             if let Event::Frame(frame) = &history[place] {
                 self.accepted(frame, &history[..place]);
@@ -161,4 +194,10 @@ impl Coverage {
             _ => self.add("dead answered to a finish"),
         }
     }
+}
+
+/// More than a payload could have before E7, which is what a sender may still write,
+/// and no more than it can have now.
+pub fn is_large(length: usize) -> bool {
+    (SIZE as usize + 1..=PAYLOAD).contains(&length)
 }

@@ -1,18 +1,23 @@
 //! How often the sessions meet each thing that is to be met.
 
-use crate::counts::Memory;
+use crate::counts::{is_large, Memory};
 use crate::lamps;
 use generate::{heads, Head};
 use second::command::lacks_args;
 use second::frame::{
-    Frame, BEGINS, COMMAND, CONTINUATION, DATA, ENDS, LAST_DATA, MORE, NEW, WITH_DATA,
+    Frame, BEGINS, COMMAND, COMMAND_BYTES, CONTINUATION, DATA, ENDS, LAST_DATA, MORE, NEW, PAYLOAD,
+    WITH_DATA,
 };
 use second::receiver::Event;
+use second::sender::SIZE;
 use second::state::Way;
 use std::collections::BTreeMap;
 
+/// Of data frames that were too long before E7.
+const LARGE_DATA: &str = "data of 4,097 to 65,535 bytes";
+
 /// All but the refusal numbers, the ways to be out of shape, and what is of E6.
-const MET: [&str; 70] = [
+const MET: [&str; 80] = [
     "2 though 3 applies too",
     "3 though dead",
     "dead answered to a feed",
@@ -35,9 +40,9 @@ const MET: [&str; 70] = [
     "refused after records of the same feed",
     "5 before a frame that writes nothing",
     "5 before a frame that is then refused",
-    "5 with 4,102 bytes of output left",
-    "last byte taken with 4,103 bytes of output left",
-    "5 with an output of 8,206 or more",
+    "5 with 65,543 bytes of output left",
+    "last byte taken with 65,544 bytes of output left",
+    "5 with an output of 131,088 or more",
     "5, and the rest offered again",
     "5, and the rest not offered again",
     "empty input",
@@ -45,8 +50,8 @@ const MET: [&str; 70] = [
     "frame over several feeds",
     "several frames in one feed",
     "start in mid-frame",
-    "start with 4,103 bytes pending",
-    "start with a length above 4,096 in less than 8 bytes",
+    "start with 65,542 bytes pending",
+    "start with a length above 65,535 in less than 8 bytes",
     "start dead",
     "start dead in mid-frame",
     "start by a poke alone",
@@ -74,6 +79,16 @@ const MET: [&str; 70] = [
     "data, empty and more",
     "data, empty and last",
     "data of 4,096 bytes",
+    "data of 4,097 bytes",
+    LARGE_DATA,
+    "data of 65,535 bytes",
+    "data of 65,535 bytes, 65,544 bytes of output",
+    "65,536 bytes claimed, 11",
+    "a large frame refused on its last byte",
+    "a large frame cut behind its header",
+    "a large frame's last byte alone",
+    "a large frame in one feed",
+    "5 before the last byte of a large data frame",
     "settings with a head of width 0",
     "settings with a head of width 1",
     "settings with a head of width 2",
@@ -121,7 +136,7 @@ impl Coverage {
     }
 
     /// A feed answered 3. Counted only where one way alone is the reason. A
-    /// pending count above 4,103 is out of shape beside any held length.
+    /// pending count above 65,542 is out of shape beside any held length.
     pub fn shape(&mut self, plain: &[Way], held: &[Way]) {
         match (plain, held) {
             ([way @ Way::PendingAbove], _) | ([way], []) | ([], [way]) => self.add(&way_name(*way)),
@@ -175,8 +190,9 @@ impl Coverage {
             let payloads = payloads(frame, past);
             let command = payloads.concat();
             self.written(&payloads, data);
-            self.add_if(command.len() == 2047, "command of 2,047 bytes");
-            self.add_if(command.len() == 2048, "command of 2,048 bytes");
+            let left = COMMAND_BYTES.checked_sub(command.len());
+            self.add_if(left == Some(1), "command of 2,047 bytes");
+            self.add_if(left == Some(0), "command of 2,048 bytes");
             self.add_if(lacks_args(&command), "command without args");
         }
         let before = command_frames(frame, past).next();
@@ -221,7 +237,10 @@ impl Coverage {
         };
         self.add(any);
         self.add_if(length == 0, empty);
-        self.add_if(length == 4096, "data of 4,096 bytes");
+        self.add_if(length == SIZE as usize, "data of 4,096 bytes");
+        self.add_if(length == SIZE as usize + 1, "data of 4,097 bytes");
+        self.add_if(is_large(length), LARGE_DATA);
+        self.add_if(length == PAYLOAD, "data of 65,535 bytes");
     }
 
     fn settings(&mut self, frame: &Frame) {
@@ -256,9 +275,10 @@ fn payloads<'p>(frame: &'p Frame, past: &'p [Event]) -> Vec<&'p [u8]> {
 
 /// How often a thing must come up.
 fn least(name: &str) -> u64 {
-    match lamps::WRONG_COUNTS.contains(&name) {
-        true => 100,
-        false => 20,
+    match name {
+        LARGE_DATA => 200,
+        _ if lamps::WRONG_COUNTS.contains(&name) => 100,
+        _ => 20,
     }
 }
 

@@ -1,6 +1,8 @@
 //! The papers' traces, as lines and their answers.
 
+use second::frame::{PAYLOAD, RECORD};
 use second::replay::Replay;
+use second::state::WORK;
 use std::io::{Result, Write};
 use std::process::{Command, Stdio};
 
@@ -8,6 +10,8 @@ use std::process::{Command, Stdio};
 const COMMAND: &str = "a2446e616d65437365744461726773a0";
 const HEADER: &str = "10000001000101";
 const FREE: &str = "0:f:0:0";
+/// More than the longest record.
+const OUTPUT: usize = 70_000;
 
 /// A line of a trace, and its answer.
 struct Asked {
@@ -27,7 +31,7 @@ struct Trace<'t> {
 impl<'t> Trace<'t> {
     fn new(table: &'t mut Table, name: &'static str) -> Trace<'t> {
         let mut trace = Trace { name, table };
-        trace.ask("fresh 20488", "fresh");
+        trace.ask(&format!("fresh {WORK}"), "fresh");
         trace
     }
 
@@ -44,7 +48,7 @@ impl<'t> Trace<'t> {
         let (taken, written) = (hex.len() / 2, records.len() / 2);
         let shown = if records.is_empty() { "-" } else { records };
         let answer = format!("fed {number} {taken} {written} {shown}");
-        self.ask(&format!("feed 5000 {hex}"), &answer);
+        self.ask(&format!("feed {OUTPUT} {hex}"), &answer);
         self.ask("tail", "tail kept");
     }
 
@@ -71,6 +75,8 @@ pub fn run(program: Option<&str>) -> Result<()> {
     loosely_written(table);
     lamp(table);
     wrong_counts(table);
+    larger_frames(table);
+    converted_logs(table);
     let answers = match program {
         Some(program) => program_answers(program, table)?,
         None => second_answers(table),
@@ -80,7 +86,7 @@ pub fn run(program: Option<&str>) -> Result<()> {
         assert_eq!(*answer, asked.answer, "{}: {}", asked.trace, asked.line);
     }
     let who = program.unwrap_or("the second implementation");
-    println!("sessions: T1 to T12, E1, E5 and E6 as in the papers, by {who}");
+    println!("sessions: T1 to T12, E1, E5, E6 and E7 as in the papers, by {who}");
     Ok(())
 }
 
@@ -113,11 +119,11 @@ fn single_frames(table: &mut Table) {
     t1.feed(
         &format!("{HEADER}11{COMMAND}"),
         0,
-        &format!("13000100010000{COMMAND}"),
+        &format!("130000000100010000{COMMAND}"),
     );
     let rest = [FREE; 7].join(" ");
     t1.ask("state", &format!("state 0 0 1:r:0:0 {rest} 1 1"));
-    t1.ask("work 4104 4120", &format!("work {COMMAND}"));
+    t1.ask("work 65543 65559", &format!("work {COMMAND}"));
 
     let mut t2 = Trace::new(table, "T2");
     t2.feed("0900000100010192486964656e74697479", 0, "");
@@ -126,7 +132,7 @@ fn single_frames(table: &mut Table) {
 
     let mut t3 = Trace::new(table, "T3");
     t3.ask(&format!("set 0 0 1:w:1:0 {rest} 1 1"), "set");
-    t3.feed("02000001000100226869", 0, "050002000100016869");
+    t3.feed("02000001000100226869", 0, "0500000002000100016869");
     t3.ask("state", &format!("state 0 0 1:r:1:0 {rest} 1 1"));
 
     let mut t5 = Trace::new(table, "T5");
@@ -138,14 +144,15 @@ fn single_frames(table: &mut Table) {
     t10.ask("state", &format!("state 24 0 {free} - 0"));
 }
 
-/// T4. The refused call ends on the eighth byte, whatever follows.
+/// T4, as E7 has it. The refused call ends on the eighth byte, whatever follows.
 fn lengths(table: &mut Table) {
     let free = [FREE; 8].join(" ");
     let mut allowed = Trace::new(table, "T4");
-    allowed.feed("0010000100010111", 0, "");
+    allowed.feed("ffff000100010111", 0, "");
     allowed.ask("state", &format!("state 0 8 {free} - 0"));
     let mut refused = Trace::new(table, "T4");
-    refused.ask("feed 5000 0110000100010111a2", "fed 11 8 0 -");
+    let line = format!("feed {OUTPUT} 0000010100010111a2");
+    refused.ask(&line, "fed 11 8 0 -");
     refused.ask("state", &format!("state 11 0 {free} - 0"));
 }
 
@@ -156,7 +163,7 @@ fn ninth_request(table: &mut Table) {
         t6.feed(
             &format!("{HEADER}11{COMMAND}"),
             0,
-            &format!("13000100010000{COMMAND}"),
+            &format!("130000000100010000{COMMAND}"),
         );
         for id in ["03", "05", "07", "09", "0b", "0d", "0f"] {
             t6.feed(&format!("000000{id}00010015"), 0, "");
@@ -178,7 +185,7 @@ fn longest_command(table: &mut Table) {
         let bytes = "5a".repeat(filler);
         format!("a2446e616d65437365744461726773a1416b59{filler:04x}{bytes}")
     };
-    let record = format!("03080100010000{}", command(2048));
+    let record = format!("030800000100010000{}", command(2048));
     let mut one = Trace::new(table, "T7");
     one.feed(&format!("0008000100010111{}", command(2048)), 0, &record);
     let mut one = Trace::new(table, "T7");
@@ -226,7 +233,7 @@ fn without_args(table: &mut Table) {
     let name = "446e616d65436f6666";
     let alone = format!("a1{name}");
     let mut e1 = Trace::new(table, "E1");
-    let record = format!("0d000100010000{alone}");
+    let record = format!("0d0000000100010000{alone}");
     e1.feed(&format!("0a00000100010111{alone}"), 0, &record);
     for command in [alone, format!("a2{name}487265646972656374a0")] {
         e1.ask(&format!("check {command}"), "checked 0");
@@ -245,12 +252,12 @@ fn loosely_written(table: &mut Table) {
     let mut e5 = Trace::new(table, "E5");
     for (kind, bit) in [("11", "02"), ("19", "03")] {
         let frame = format!("11000001000103{kind}{loose}");
-        e5.feed(&frame, 0, &format!("140001000100{bit}{loose}"));
+        e5.feed(&frame, 0, &format!("1400000001000100{bit}{loose}"));
         if kind == "11" {
             e5.ask("finish 1", "finished 0");
         }
     }
-    e5.feed("02000001000103226869", 0, "050002000100016869");
+    e5.feed("02000001000103226869", 0, "0500000002000100016869");
     let with = |item: &str| format!("a2446e616d65437365744461726773a1416b{item}");
     for (item, mark) in [
         ("1817", 1),
@@ -265,7 +272,7 @@ fn loosely_written(table: &mut Table) {
 /// E6: the count and the row after each call. The last frame is a new one of an active
 /// id, which is refused.
 fn lamp(table: &mut Table) {
-    let record = |id: u8, bit: u8| format!("130001000{id}000{bit}{COMMAND}");
+    let record = |id: u8, bit: u8| format!("1300000001000{id}000{bit}{COMMAND}");
     let mut e6 = Trace::new(table, "E6");
     e6.shows(0, "");
     e6.feed("0000000100010115", 0, "");
@@ -278,13 +285,13 @@ fn lamp(table: &mut Table) {
     e6.shows(2, " 1:r 3:w");
     e6.ask("finish 3", "finished 4");
     e6.shows(2, " 1:r 3:w");
-    e6.feed("0000000300010022", 0, "03000200030001");
+    e6.feed("0000000300010022", 0, "030000000200030001");
     e6.shows(2, " 1:r 3:r");
     e6.ask("finish 1", "finished 0");
     e6.shows(1, " 0:f 3:r");
     e6.feed("0000000300010015", 19, "");
     e6.shows(1, " 0:f 3:r");
-    e6.ask("feed 5000 00", "fed 19 0 0 -");
+    e6.ask("feed 70000 00", "fed 19 0 0 -");
     e6.ask("finish 3", "finished 19");
     e6.shows(1, " 0:f 3:r");
 }
@@ -297,7 +304,7 @@ fn wrong_counts(table: &mut Table) {
     for count in [0, 2, 9, 255] {
         let state = format!("0 0 1:r:0:0 {rest} 1 {count}");
         e6.ask(&format!("set {state}"), "set");
-        e6.ask("feed 5000 00", "fed 3 0 0 -");
+        e6.ask("feed 70000 00", "fed 3 0 0 -");
         e6.ask("finish 1", "finished 3");
         e6.ask("active", "active 3 0");
         e6.ask("row 7", &format!("row 3{}", kept.repeat(7)));
@@ -310,4 +317,53 @@ fn wrong_counts(table: &mut Table) {
     e6.ask("row 9", &filled);
     e6.ask("finish 1", "finished 0");
     e6.shows(0, "");
+}
+
+/// E7: the longest data frame, with the least output for it and with a byte less; then
+/// one that claims a byte more.
+fn larger_frames(table: &mut Table) {
+    let rest = [FREE; 7].join(" ");
+    let data = "5a".repeat(PAYLOAD);
+    let (header, last) = (format!("ffff000100010022{}", &data[2..]), "5a");
+    let mut e7 = Trace::new(table, "E7");
+    e7.ask(&format!("set 0 0 1:w:1:0 {rest} 1 1"), "set");
+    e7.ask(&format!("feed {} {header}", RECORD - 1), "fed 1 0 0 -");
+    e7.feed(&header, 0, "");
+    e7.ask("state", &format!("state 0 65542 1:w:1:0 {rest} 1 1"));
+    e7.ask(&format!("feed {} {last}", RECORD - 1), "fed 1 0 0 -");
+    let record = format!("020001000200010001{data}");
+    let answer = format!("fed 0 1 65544 {record}");
+    e7.ask(&format!("feed {RECORD} {last}"), &answer);
+    e7.ask("state", &format!("state 0 0 1:r:1:0 {rest} 1 1"));
+    e7.feed("0000010100010022", 11, "");
+    e7.ask(&format!("set 0 65542 1:r:1:0 {rest} 1 1"), "set");
+    e7.ask("finish 1", "finished 0");
+    e7.ask(&format!("set 0 65543 1:r:1:0 {rest} 1 1"), "set");
+    e7.ask("finish 1", "finished 3");
+}
+
+/// E7: T1's and T3's records as they were stored, and as they are now; cut in the last
+/// body, with output for none of it.
+fn converted_logs(table: &mut Table) {
+    let old = format!("13000100010000{COMMAND}050002000100016869");
+    let new = format!("130000000100010000{COMMAND}0500000002000100016869");
+    let cut = &old[..old.len() - 2];
+    let mut e7 = Trace::new(table, "E7");
+    e7.ask(
+        &format!("convert 36 {old}"),
+        &format!("converted 0 36 {new}"),
+    );
+    e7.ask(&format!("convert 35 {old}"), "converted 71 0 -");
+    e7.ask("tail", "tail kept");
+    e7.ask(
+        &format!("convert 99 {old}"),
+        &format!("converted 0 36 {new}"),
+    );
+    e7.ask("tail", "tail kept");
+    e7.ask(&format!("convert 0 {cut}"), "converted 70 0 -");
+    e7.ask(&format!("convert 99 {cut}"), "converted 70 0 -");
+    e7.ask("tail", "tail kept");
+    e7.ask(&format!("whole {old}"), "whole 32");
+    e7.ask(&format!("whole {cut}"), "whole 23");
+    e7.ask("convert 0 -", "converted 0 0 -");
 }

@@ -146,7 +146,7 @@ impl Watch {
                 let room = feed.output.checked_sub(written + RECORD);
                 must(room.is_some(), "a last byte was taken without room")?;
                 let exact = room == Some(0) && written > 0;
-                coverage.add_if(exact, "last byte taken with 4,103 bytes of output left");
+                coverage.add_if(exact, "last byte taken with 65,544 bytes of output left");
             }
             uncut.byte(*byte);
         }

@@ -11,13 +11,37 @@ use std::fmt::Display;
 
 const UNWRITTEN: u8 = 0xa5;
 
-/// What a feed answers and leaves.
-#[derive(PartialEq)]
-struct Left {
-    fed: Fed,
-    state: Vec<u8>,
+/// The buffers that are lent to feeds on one state, beside what they are before each:
+/// they are long, and most calls leave them.
+pub struct Lent {
     work: Vec<u8>,
     output: Vec<u8>,
+    area: Vec<u8>,
+    unwritten: Vec<u8>,
+}
+
+impl Lent {
+    /// `work` is the work area of the state.
+    pub fn new(work: &[u8]) -> Lent {
+        let unwritten = vec![UNWRITTEN; 3 * OUTPUT];
+        Lent {
+            work: work.to_vec(),
+            output: unwritten.clone(),
+            area: work.to_vec(),
+            unwritten,
+        }
+    }
+
+    /// Whether the first bytes of both are what they are before a call.
+    fn is_kept(&self, size: usize, room: usize) -> bool {
+        self.work[..size] == self.area[..size] && self.output[..room] == self.unwritten[..room]
+    }
+
+    /// Makes both what they are before a call.
+    fn restore(&mut self) {
+        self.work.copy_from_slice(&self.area);
+        self.output.copy_from_slice(&self.unwritten);
+    }
 }
 
 /// The calls on states, with inputs and ids in turn.
@@ -43,15 +67,15 @@ impl Calls {
 
     /// Each call on these bytes. Now and then a feed with a work area or an
     /// output that is too short, or of other lengths, too.
-    pub fn hold(&mut self, state: &[u8], work: &[u8]) -> Result<(), String> {
+    pub fn hold(&mut self, state: &[u8], lent: &mut Lent) -> Result<(), String> {
         self.turn += 1;
         let input = self.inputs[self.turn % self.inputs.len()].clone();
-        self.feed(state, work, &input, OUTPUT)?;
+        self.feed(state, lent, [WORK, OUTPUT], &input)?;
         if self.turn % 16 == 1 {
-            self.feed(state, &work[..WORK - 1], &input, OUTPUT)?;
-            self.feed(state, work, &input, OUTPUT - 1)?;
-            self.feed(state, work, &input, 3 * OUTPUT)?;
-            self.feed(state, &[], &[], 0)?;
+            self.feed(state, lent, [WORK - 1, OUTPUT], &input)?;
+            self.feed(state, lent, [WORK, OUTPUT - 1], &input)?;
+            self.feed(state, lent, [WORK, 3 * OUTPUT], &input)?;
+            self.feed(state, lent, [0, 0], &[])?;
         }
         self.lamp(state, self.turn)?;
         let read = bytes::read(state);
@@ -60,13 +84,13 @@ impl Calls {
     }
 
     /// Bytes of other lengths are no state: 2 before 3, and 3.
-    pub fn other_lengths(&mut self, real: &Real) -> Result<(), String> {
+    pub fn other_lengths(&mut self, real: &Real, lent: &mut Lent) -> Result<(), String> {
         let longer = [&real.state[..], &[0; 200]].concat();
         let length = real.state.len();
         for other in [0, 1, length - 1, length + 1, 233, longer.len()] {
             let bytes = &longer[..other];
-            self.feed(bytes, &real.work, b"\0", OUTPUT)?;
-            self.feed(bytes, &real.work[..WORK - 1], b"\0", OUTPUT)?;
+            self.feed(bytes, lent, [WORK, OUTPUT], b"\0")?;
+            self.feed(bytes, lent, [WORK - 1, OUTPUT], b"\0")?;
             self.finish(bytes, 1)?;
             for turn in 0..ROW_LENGTHS {
                 self.lamp(bytes, turn)?;
@@ -81,34 +105,46 @@ impl Calls {
         must(number == 0 && state == fresh, "fresh of a state's length")
     }
 
-    fn feed(&mut self, state: &[u8], work: &[u8], input: &[u8], room: usize) -> Result<(), String> {
-        let unwritten = vec![UNWRITTEN; room];
-        let mut left = Left {
-            fed: nothing(0),
-            state: state.to_vec(),
-            work: work.to_vec(),
-            output: unwritten.clone(),
-        };
-        left.fed = feed_bytes(&mut left.state, &mut left.work, input, &mut left.output);
-        let number = left.fed.number;
-        self.tally.add("feed", number);
+    /// A feed with a work area and an output of these lengths.
+    fn feed(
+        &mut self,
+        state: &[u8],
+        lent: &mut Lent,
+        [size, room]: [usize; 2],
+        input: &[u8],
+    ) -> Result<(), String> {
+        let mut left = state.to_vec();
+        let (work, output) = (&mut lent.work[..size], &mut lent.output[..room]);
+        let fed = feed_bytes(&mut left, work, input, output);
+        self.tally.add("feed", fed.number);
+        let number = fed.number;
         let defined = matches!(number, 0..=3 | 5 | 11..=29);
         must(defined, format_args!("feed answers {number}"))?;
-        let dead = bytes::read(state).is_some_and(|state| state.dead != 0);
+        let read = bytes::read(state);
+        let dead = read.as_ref().is_some_and(|state| state.dead != 0);
         if matches!(number, 1..=3) || dead {
-            let kept = left.state == state && left.work == work && left.output == unwritten;
+            let kept = left == state && lent.is_kept(size, room);
             must(
                 kept,
                 format_args!("feed answers {number} and changes a byte"),
             )?;
-            must(left.fed == nothing(number), "feed refuses and takes bytes")?;
+            must(fed == nothing(number), "feed refuses and takes bytes")?;
         }
-        let wanted = wanted_feed(state, work, input, unwritten);
-        must(
-            left.fed == wanted.fed,
-            format_args!("feed answers {:?}, not {:?}", left.fed, wanted.fed),
-        )?;
-        must(left == wanted, "feed leaves other bytes")
+        let Some(read) = read else {
+            let wanted = nothing(if size < WORK { 2 } else { 3 });
+            return must(fed == wanted, format_args!("feed {fed:?}, not {wanted:?}"));
+        };
+        let held = as_second(
+            fed,
+            &left,
+            lent,
+            Receiver::start(read, lent.area[..size].to_vec()),
+            (input, room),
+        );
+        if !lent.is_kept(size, room) {
+            lent.restore();
+        }
+        held
     }
 
     fn finish(&mut self, state: &[u8], id: u16) -> Result<(), String> {
@@ -147,30 +183,30 @@ pub fn must(holds: bool, reason: impl Display) -> Result<(), String> {
     }
 }
 
-/// By the second implementation; bytes that are no state are refused with 3,
-/// after 2 and before the dead number.
-fn wanted_feed(state: &[u8], work: &[u8], input: &[u8], mut output: Vec<u8>) -> Left {
-    let Some(read) = bytes::read(state) else {
-        let number = if work.len() < WORK { 2 } else { 3 };
-        return Left {
-            fed: nothing(number),
-            state: state.to_vec(),
-            work: work.to_vec(),
-            output,
-        };
+/// What a feed answered and left is what the second receiver answers and leaves.
+fn as_second(
+    fed: Fed,
+    state: &[u8],
+    lent: &Lent,
+    mut receiver: Receiver,
+    (input, room): (&[u8], usize),
+) -> Result<(), String> {
+    let mut output = lent.unwritten[..room].to_vec();
+    let answer = receiver.feed(input, &mut output);
+    let wanted = Fed {
+        number: answer.number.into(),
+        taken: answer.taken,
+        written: answer.written,
     };
-    let mut receiver = Receiver::start(read, work.to_vec());
-    let fed = receiver.feed(input, &mut output);
-    Left {
-        fed: Fed {
-            number: fed.number.into(),
-            taken: fed.taken,
-            written: fed.written,
-        },
-        state: bytes::write(&receiver.state()),
-        work: receiver.work().to_vec(),
-        output,
-    }
+    must(
+        fed == wanted,
+        format_args!("feed answers {fed:?}, not {wanted:?}"),
+    )?;
+    let work = receiver.work();
+    let same = state == bytes::write(&receiver.state())
+        && lent.work[..work.len()] == *work
+        && lent.output[..room] == output;
+    must(same, "feed leaves other bytes")
 }
 
 fn wanted_finish(state: &[u8], id: u16) -> (u32, Vec<u8>) {

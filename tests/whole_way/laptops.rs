@@ -4,7 +4,7 @@
 use crate::tally::Tally;
 use crate::wish::{Wish, Written};
 use generate::Random;
-use hgrpc::{send, Request, FRAME_HEAD, PAYLOAD_LONGEST};
+use hgrpc::{send, Request, FRAME_HEAD, SEND_SIZE_LONGEST};
 use std::collections::{BTreeSet, VecDeque};
 
 /// What the laptops put on the line.
@@ -70,7 +70,7 @@ impl Laptop {
     fn send(&mut self, id: u16, random: &mut Random, tally: &mut Tally) -> Result<(), String> {
         let wish = Wish::any(random);
         let Written { pairs, loose } = wish.written(random);
-        let any = random.between(1, PAYLOAD_LONGEST);
+        let any = random.between(1, SEND_SIZE_LONGEST);
         let length = random.below(60);
         let data = random.percent(25).then(|| random.bytes(length));
         let request = Request {
@@ -78,7 +78,7 @@ impl Laptop {
             stream: self.stream,
             begin: !self.open,
             end: random.percent(30),
-            size: random.pick(&[1, 2, 7, 16, 40, any, PAYLOAD_LONGEST]),
+            size: random.pick(&[1, 2, 7, 16, 40, any, SEND_SIZE_LONGEST]),
             name: wish.name(),
             pairs: &pairs.concat(),
             count: pairs.len() as u64,
@@ -91,7 +91,7 @@ impl Laptop {
         }
         self.open = !request.end;
         tally.add_if(request.size == 1, "frames of one byte");
-        tally.add_if(request.size == PAYLOAD_LONGEST, "frames of 4,096 bytes");
+        tally.add_if(request.size == SEND_SIZE_LONGEST, "frames of 4,096 bytes");
         tally.add_if(data.is_some(), "data behind the command");
         tally.add_if(id > 255, "a request id above 255");
         tally.add_if(loose, "a command written loosely");

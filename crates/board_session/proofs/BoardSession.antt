@@ -10,6 +10,7 @@ use lib.IntN.{pos}
 use lib.ListN.{length}
 use Rattle.keys.specs.Keys.{part, equal}
 use Rattle.cbor.specs.Cbor.{width, shortest, bigEndian, headValue, headOf, headAt, bytesAt, tagged, itemAt, value}
+use Rattle.frame.specs.Limits.{maxPayload}
 use Rattle.cbor.specs.Heads.{bigBytes, headBytes, stringBytes}
 use Rattle.entries.specs.Entries.{entryAt, entries, find}
 use Rattle.command.specs.declared.Number.{Number}
@@ -34,7 +35,7 @@ use Rattle.board.specs.Commands.{set-name, coil-key, on-key, switchItem}
 use Rattle.board.specs.Board.{applied, after}
 use Rattle.board.specs.Laws.{AsksSet}
 use Rattle.board.proofs.BoardLaws.{refused-keeps, accepted-does, set-does}
-use Rattle.board_session.specs.BoardSession.{firstCommands, commandsIn, boardAfter, BoardUncut, SentApplied, PairsAsk, SetSwitches, setPairs, PlainPairs}
+use Rattle.board_session.specs.BoardSession.{commandsIn, boardAfter, BoardUncut, SentApplied, PairsAsk, SetSwitches, setPairs, PlainPairs}
 use Rattle.board_session.proofs.Records.{none, data-none, filled-short, one-command}
 
 -- ---- however the bytes are cut
@@ -45,14 +46,14 @@ board-uncut b r sound cs = ap (λ (o : Outcome Receiver). boardAfter b (o .recor
 -- ---- what was sent is applied
 
 module _ (how : Wishes) (bytes : List ℕ) (some : 0 < how .size) (most : how .size ≤ maxSize) where
-  none-behind : (with-data : Bool) (n : ℕ) → firstCommands n (cond with-data (dataRecords (how .request) (payloads (dataFrames how bytes))) []) ≡ []
-  none-behind true n =
-      data-none n (how .request) (payloads (dataFrames how bytes)) (filled-short (how .size) (length bytes) (dataFrames how bytes) (omega arith) (message-framed how [] true bytes some .data-filled))
-  none-behind false n = none n
+  none-behind : (with-data : Bool) → commandsIn (cond with-data (dataRecords (how .request) (payloads (dataFrames how bytes))) []) ≡ []
+  none-behind true =
+      data-none (how .request) (payloads (dataFrames how bytes)) (filled-short (how .size) (length bytes) (dataFrames how bytes) (omega arith) (message-framed how [] true bytes some .data-filled))
+  none-behind false = none
 
-once : (b : Board) (records command : List ℕ) → commandsIn records ≡ command ∷ [] → boardAfter b records ≡ applied command b .board
+once : (b : Board) (joined command : List ℕ) → commandsIn joined ≡ command ∷ [] → boardAfter b joined ≡ applied command b .board
 unfolding boardAfter after
-once b records command e = rw e
+once b joined command e = rw e
 
 sent-once : (how : Wishes) (name pairs : List ℕ) (count : ℕ) (with-data : Bool) (bytes out : List ℕ) (r : Receiver) (b : Board) → Fits how → Ready how r
     → sendOf how (commandBytes name pairs count) with-data bytes out .number ≡ 0 → (cs : List Call)
@@ -63,7 +64,7 @@ sent-once how name pairs count with-data bytes out r b fits ready h cs e =
     let n = not-refused how command with-data bytes out h in
     let o = n .sendable fits in
     let a = round-trip how name pairs count with-data bytes out r fits ready h .session cs e in
-    let short : length command < 65533 = omega (arith, n .long) in
+    let short : length command ≤ maxPayload = omega (arith, n .long) in
     once b (session channel r cs .records) command
     (rw (a .records) (one-command (how .request) (commandByte with-data command) command _ short (none-behind how bytes (o .some) (o .most) with-data)))
 

@@ -1,17 +1,17 @@
 -- The whole way from a laptop to a coil: a command is sent (E2), its bytes are fed in any pieces, and the board applies each command of the
 -- records (E3). What the laptop asked for is what the coil does. Each claim is proved under its name in proofs/BoardSession.antt.
 -- These are definitions: they assume nothing.
-use Prim.Native.Nat.{ℕ, zero, suc, _+_, _-_, _<_}
+use Prim.Native.Nat.{ℕ, _+_, _*_, _<_}
 use mathlib.Core.Path.{_≡_}
 use mathlib.Core.Bool.{Bool, cond}
 use mathlib.Core.List.{List, [], _∷_, _++_, map}
-use lib.Dec.{ltb, eqb}
+use lib.Dec.{eqb}
 use lib.IntN.{pos}
-use lib.ListN.{length, take, drop}
+use lib.ListN.{length, drop}
 use Rattle.cbor.specs.Heads.{headBytes, stringBytes}
 use Rattle.command.specs.declared.Number.the-variants.{Whole}
 use Rattle.command.specs.Lookup.{partAt, integerIn}
-use Rattle.records.specs.Records.{numberAt}
+use Rattle.logs.specs.Logs.{Stored, records}
 use Rattle.session.specs.Session.{Call, took, uncut, session, events}
 use Rattle.channel.specs.Receiver.{Receiver}
 use Rattle.channel.specs.Channel.{channel}
@@ -32,21 +32,17 @@ use Rattle.board.specs.Laws.{Switched, Done}
 abbrev pub withCommand : ℕ → List ℕ → List (List ℕ) → List (List ℕ)
 withCommand kind command rest = cond (eqb kind 1) (command ∷ rest) rest
 
--- The commands of at most n joined records, in order. A record is its body's length (2), its kind (2) and its body, which is the request (2), a
--- byte (1) and the command or data. A record that is not whole ends them.
-unfoldable pub firstCommands : ℕ → List ℕ → List (List ℕ)
-firstCommands zero records = []
-firstCommands (suc n) records =
-    let body = numberAt records 0 in
-    cond (ltb (length records) (4 + body)) []
-    (withCommand (numberAt records 2) (take (body - 3) (drop 7 records)) (firstCommands n (drop (4 + body) records)))
+-- the commands of records, in order; a body is the request (2), a byte (1) and the command or data
+unfoldable pub commandsOf : List Stored → List (List ℕ)
+commandsOf [] = []
+commandsOf (r ∷ rs) = withCommand (r .low + 256 * r .high) (drop 3 (r .body)) (commandsOf rs)
 
--- no more records than bytes
+-- those of joined records; one that is not whole ends them
 abbrev pub commandsIn : List ℕ → List (List ℕ)
-commandsIn records = firstCommands (length records) records
+commandsIn joined = commandsOf (records 4 joined)
 
 unfoldable pub boardAfter : Board → List ℕ → Board
-boardAfter b records = after b (commandsIn records)
+boardAfter b joined = after b (commandsIn joined)
 
 -- ---- the claims
 

@@ -1,4 +1,4 @@
--- What a byte writes, and that no session writes past the work area's 20,488 bytes. Assumes nothing.
+-- What a byte writes, and that no session writes past the work area's 81,927 bytes. Assumes nothing.
 use Prim.Native.Nat.{ℕ, zero, suc, _+_, _≤_, _<_}
 use mathlib.Core.Path.{_≡_, refl, ap, _∙_}
 use mathlib.Core.Bool.{Bool, true, false, cond, _&&_, _||_, and-false}

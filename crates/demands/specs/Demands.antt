@@ -74,7 +74,7 @@ pub record Written (r : Receiver) (b : ℕ) (q : Receiver) : Type 0 where
 abbrev pub ByteWrites : Type 0
 ByteWrites = (r : Receiver) → Sound r → r .state .dead ≡ 0 → (b : ℕ) → Written r b (takeByte r b .next)
 
--- in no session does a byte past the 20,488 change, or the work area's length
+-- in no session does a byte past the 81,927 change, or the work area's length
 abbrev pub PastKept : Type 0
 PastKept =
     (r : Receiver) → Sound r → (cs : List Call) → let q = session channel r cs .end in

@@ -124,7 +124,7 @@ abbrev pub looseT1 : List ℕ
 looseT1 = 0xA2 ∷ 0x44 ∷ 0x6E ∷ 0x61 ∷ 0x6D ∷ 0x65 ∷ 0x58 ∷ 0x03 ∷ 0x73 ∷ 0x65 ∷ 0x74 ∷ 0x44 ∷ 0x61 ∷ 0x72 ∷ 0x67 ∷ 0x73 ∷ 0xA0 ∷ []
 
 abbrev pub t1Record : ℕ → List ℕ
-t1Record request = 0x13 ∷ 0 ∷ 1 ∷ 0 ∷ request ∷ 0 ∷ 0 ∷ drop 8 t1
+t1Record request = 0x13 ∷ 0 ∷ 0 ∷ 0 ∷ 1 ∷ 0 ∷ request ∷ 0 ∷ 0 ∷ drop 8 t1
 
 unfoldable pub table : List Row
 table =
@@ -134,17 +134,17 @@ table =
     -- T2
     ∷ row (calls fresh (fed (9 ∷ 0 ∷ 0 ∷ 1 ∷ 0 ∷ 1 ∷ 1 ∷ 0x92 ∷ 0x48 ∷ 0x69 ∷ 0x64 ∷ 0x65 ∷ 0x6E ∷ 0x74 ∷ 0x69 ∷ 0x74 ∷ 0x79 ∷ []) ∷ [])) (0 ∷ []) (17 ∷ []) []
     -- T3
-    ∷ row (calls waiting (fed (2 ∷ 0 ∷ 0 ∷ 1 ∷ 0 ∷ 1 ∷ 0 ∷ 0x22 ∷ 0x68 ∷ 0x69 ∷ []) ∷ [])) (0 ∷ []) (10 ∷ []) (5 ∷ 0 ∷ 2 ∷ 0 ∷ 1 ∷ 0 ∷ 1 ∷ 0x68 ∷ 0x69 ∷ [])
+    ∷ row (calls waiting (fed (2 ∷ 0 ∷ 0 ∷ 1 ∷ 0 ∷ 1 ∷ 0 ∷ 0x22 ∷ 0x68 ∷ 0x69 ∷ []) ∷ [])) (0 ∷ []) (10 ∷ []) (5 ∷ 0 ∷ 0 ∷ 0 ∷ 2 ∷ 0 ∷ 1 ∷ 0 ∷ 1 ∷ 0x68 ∷ 0x69 ∷ [])
     -- T4, both ways: seven bytes, and then the eighth
-    ∷ row (calls fresh (eighthAlone (header 0x00 0x10 1 1 0x11))) (0 ∷ 0 ∷ []) (7 ∷ 1 ∷ []) []
-    ∷ row (calls fresh (eighthAlone (header 0x01 0x10 1 1 0x11))) (0 ∷ 11 ∷ []) (7 ∷ 1 ∷ []) []
+    ∷ row (calls fresh (eighthAlone (header 0xFF 0xFF 1 1 0x11))) (0 ∷ 0 ∷ []) (7 ∷ 1 ∷ []) []
+    ∷ row (calls fresh (eighthAlone (0 ∷ 0 ∷ 1 ∷ drop 3 (header 0 0 1 1 0x11)))) (0 ∷ 11 ∷ []) (7 ∷ 1 ∷ []) []
     -- T5
     ∷ row (calls fresh (fed (take 7 t1 ++ 0x13 ∷ drop 8 t1) ∷ [])) (18 ∷ []) (24 ∷ []) []
     -- T6, both ways
     ∷ row (calls fresh (nine [])) (0 ∷ 0 ∷ 20 ∷ []) (56 ∷ 24 ∷ 8 ∷ []) (t1Record 15)
     ∷ row (calls fresh (nine (ends 15 ∷ []))) (0 ∷ 0 ∷ 0 ∷ 0 ∷ []) (56 ∷ 24 ∷ 8 ∷ []) (t1Record 15)
     -- T7, both ways
-    ∷ row (calls fresh (fed (eight 0) ∷ [])) (0 ∷ []) (2112 ∷ []) (3 ∷ 8 ∷ 1 ∷ 0 ∷ 1 ∷ 0 ∷ 0 ∷ firstPart ++ replicate 1792 0)
+    ∷ row (calls fresh (fed (eight 0) ∷ [])) (0 ∷ []) (2112 ∷ []) (3 ∷ 8 ∷ 0 ∷ 0 ∷ 1 ∷ 0 ∷ 1 ∷ 0 ∷ 0 ∷ firstPart ++ replicate 1792 0)
     ∷ row (calls fresh (fed (eight 1) ∷ [])) (23 ∷ []) (2113 ∷ []) []
     -- T8, both ways
     ∷ look (withX (0x3B ∷ 0x7F ∷ 0xFF ∷ 0xFF ∷ 0xFF ∷ 0xFF ∷ 0xFF ∷ 0xFF ∷ 0xFF ∷ [])) 0 0 (negsuc (2 ^ 63 - 1))
@@ -161,9 +161,9 @@ table =
     ∷ row (calls fresh (fed (opening 1 1) ∷ ends 1 ∷ [])) (0 ∷ 4 ∷ []) (8 ∷ []) []
     -- E5: a command that is written loosely, cut in the loose head; it runs, and with the data bit it waits for data
     ∷ row (calls fresh (fed (header 7 0 1 1 0x15 ++ take 7 looseT1) ∷ fed (header 10 0 1 0 0x12 ++ drop 7 looseT1) ∷ ends 1 ∷ [])) (0 ∷ 0 ∷ 0 ∷ []) (15 ∷ 18 ∷ [])
-    (0x14 ∷ 0 ∷ 1 ∷ 0 ∷ 1 ∷ 0 ∷ 2 ∷ looseT1)
+    (0x14 ∷ 0 ∷ 0 ∷ 0 ∷ 1 ∷ 0 ∷ 1 ∷ 0 ∷ 2 ∷ looseT1)
     ∷ row (calls fresh (fed (header 17 0 1 1 0x19 ++ looseT1) ∷ ends 1 ∷ fed (header 0 0 1 0 0x22) ∷ ends 1 ∷ [])) (0 ∷ 4 ∷ 0 ∷ 0 ∷ []) (25 ∷ 8 ∷ [])
-    (0x14 ∷ 0 ∷ 1 ∷ 0 ∷ 1 ∷ 0 ∷ 3 ∷ looseT1 ++ 3 ∷ 0 ∷ 2 ∷ 0 ∷ 1 ∷ 0 ∷ 1 ∷ [])
+    (0x14 ∷ 0 ∷ 0 ∷ 0 ∷ 1 ∷ 0 ∷ 1 ∷ 0 ∷ 3 ∷ looseT1 ++ 3 ∷ 0 ∷ 0 ∷ 0 ∷ 2 ∷ 0 ∷ 1 ∷ 0 ∷ 1 ∷ [])
     ∷ []
 
 -- every row's result is what its trace gives

@@ -34,7 +34,7 @@ and-right false y h = let z : _≡_ {A = ℕ} 0 1 = cc in absurd (none z)
 abbrev pub InBytes : ℕ → ℕ → Type 0
 InBytes w n = n < 256 ^ w
 
-number-size : (w n : ℕ) → length (bytesOf w n) ≡ w
+pub number-size : (w n : ℕ) → length (bytesOf w n) ≡ w
 number-size zero n = refl
 number-size (suc w) n = ap suc (number-size w (n / 256))
 
@@ -60,6 +60,11 @@ number-only (suc w) (x ∷ xs) h l =
     let low : (x + 256 * v) % 256 ≡ x = omega (arith, h .byte 0) in
     let high : (x + 256 * v) / 256 ≡ v = omega (arith, h .byte 0) in
     rw (little-cons w 0 x xs, low, high) (ap (λ (t : List ℕ). x ∷ t) (number-only w xs (bytes-drop 1 (x ∷ xs) h) (omega arith)))
+
+-- a number of w bytes, from place i on, is below 256^w
+pub number-small : (w i : ℕ) (b : List ℕ) → AreBytes b → little w i b < 256 ^ w
+number-small zero i b h = omega arith
+number-small (suc w) i b h = omega (arith, h .byte i, number-small w (suc i) b h, pow-suc 256 w)
 
 pub number-lawful : (w : ℕ) → Lawful (number w) (InBytes w)
 number-lawful w = record { size = λ n h. number-size w n; back = number-back w; passes = λ n r h. refl; only = λ b h l g. number-only w b h l }

@@ -50,6 +50,20 @@ two-put b at n =
     ∙ set-write (write b at c) (at + 1) (n / 256 % 256)
     ∙ put-behind b at (at + 1) c (n / 256 % 256 ∷ []) (omega arith)
 
+-- and of three, the first two as a number by itself
+
+pub three-get : (b : List ℕ) (at : ℕ) → number 3 .get (drop at b) ≡ number 2 .get (drop at b) + 65536 * getD b (at + 2) 0
+three-get b at =
+    let z : getD (drop at b) 2 0 ≡ getD b (at + 2) 0 = getD-drop at b 2 0 in
+    omega (arith, z)
+
+pub three-put : (b : List ℕ) (at n : ℕ) → set (write b at (number 2 .put n)) (at + 2) (n / 65536 % 256) ≡ write b at (number 3 .put n)
+three-put b at n =
+    let e : n / 65536 ≡ n / 256 / 256 = omega arith in
+    set-write (write b at (number 2 .put n)) (at + 2) (n / 65536 % 256)
+    ∙ put-behind b at (at + 2) (number 2 .put n) (n / 65536 % 256 ∷ []) (omega arith)
+    ∙ ap (λ (m : ℕ). write b at (n % 256 ∷ n / 256 % 256 ∷ m % 256 ∷ [])) e
+
 -- ---- one byte
 
 pub byte-get : (b : List ℕ) (at : ℕ) → getD (drop at b) 0 0 ≡ getD b at 0

@@ -3,7 +3,7 @@
 use Prim.Native.Nat.{ℕ, _+_, _*_}
 
 abbrev pub maxPayload : ℕ
-maxPayload = 4096
+maxPayload = 65535
 
 abbrev pub maxCommand : ℕ
 maxCommand = 2048
@@ -14,17 +14,17 @@ slotCount = 8
 abbrev pub streamCount : ℕ
 streamCount = 128
 
--- the longest record: four bytes before a body of three bytes and a payload
+-- the longest record: six bytes before a body of three bytes and a payload
 abbrev pub longestRecord : ℕ
-longestRecord = 4103
+longestRecord = 65544
 
 -- the places for the frame under way
 abbrev pub frameArea : ℕ
-frameArea = 4104
+frameArea = 65543
 
 -- where a slot's part of the work area starts
 abbrev pub partStart : ℕ → ℕ
 partStart i = frameArea + maxCommand * i
 
 abbrev pub workArea : ℕ
-workArea = 20488
+workArea = 81927

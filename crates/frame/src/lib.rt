@@ -12,15 +12,15 @@ ghost use Rattle.frame.specs.Records.{bit, requestRecord};
 
 // The sizes of document 01, as `Limits` of the definitions has them: the longest payload, command and record, the places for the frame
 // under way, and the work area.
-pub const MAX_PAYLOAD: usize = 4096;
+pub const MAX_PAYLOAD: usize = 65535;
 
 pub const MAX_COMMAND: usize = 2048;
 
-pub const LONGEST_RECORD: usize = 4103;
+pub const LONGEST_RECORD: usize = 9 + MAX_PAYLOAD;
 
-pub const FRAME_AREA: usize = 4104;
+pub const FRAME_AREA: usize = 8 + MAX_PAYLOAD;
 
-pub const WORK_AREA: usize = 20488;
+pub const WORK_AREA: usize = FRAME_AREA + 8 * MAX_COMMAND;
 
 // The numbers of a frame's eight header bytes. The type is called kind here, for `type` is a word of the language.
 pub struct Header {
@@ -190,11 +190,13 @@ pub fn put_record(
 {
     let body = bytes.len() + 3;
     if out.len() <= at {
-        return body + 4;
+        return body + 6;
     }
     let head = [
         (body % 256) as u8,
         (body / 256 % 256) as u8,
+        (body / 65536 % 256) as u8,
+        (body / 16777216 % 256) as u8,
         (kind % 256) as u8,
         (kind / 256 % 256) as u8,
         (request % 256) as u8,
@@ -202,6 +204,6 @@ pub fn put_record(
         third,
     ];
     buffer::put(out, at, &head);
-    buffer::put(out, at + 7, bytes);
-    body + 4
+    buffer::put(out, at + 9, bytes);
+    body + 6
 }

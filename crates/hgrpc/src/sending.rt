@@ -2,7 +2,8 @@
 use sender::Wishes;
 ghost use mathlib.Core.Path.{_≡_};
 ghost use Rattle.sender.specs.Parts.{commandBytes};
-ghost use Rattle.sender.specs.Send.{answer, sendOf};
+ghost use Rattle.buffer.specs.Answers.{answer};
+ghost use Rattle.sender.specs.Send.{sendOf};
 
 // Writes the frames that carry a command and, where it has some, its data: 0 and the bytes written; or 50, 51, 52, 53 or 54, nothing is
 // written, and the output is unchanged.

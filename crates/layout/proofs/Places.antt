@@ -97,33 +97,33 @@ abbrev fromSlots : Field (List Slot × (List Bool × ℕ))
 fromSlots = both (many slot slotCount) fromStreams
 
 abbrev fromPending : Field (ℕ × (List Slot × (List Bool × ℕ)))
-fromPending = both (number 2) fromSlots
+fromPending = both (number 3) fromSlots
 
 module _ (b : List ℕ) where
   pub state-good : channel .good b ≡ (goodAll slot slotCount (drop slotsAt b) && goodAll flag streamCount (drop streamsAt b))
   state-good =
       both-good (number 1) fromPending b 0 pendingAt refl
-      ∙ both-good (number 2) fromSlots b pendingAt slotsAt refl
+      ∙ both-good (number 3) fromSlots b pendingAt slotsAt refl
       ∙ both-good (many slot slotCount) fromStreams b slotsAt streamsAt refl
       ∙ ap (λ (x : Bool). goodAll slot slotCount (drop slotsAt b) && x) (both-good (many flag streamCount) (number 1) b streamsAt activeAt refl ∙ and-true (goodAll flag streamCount (drop streamsAt b)))
 
   pub state-get : stateOf b
-      ≡ record { dead = getD b 0 0; pending = number 2 .get (drop pendingAt b); slots = getAll slot slotCount (drop slotsAt b); streams = getAll flag streamCount (drop streamsAt b); active = getD b activeAt 0 }
+      ≡ record { dead = getD b 0 0; pending = number 3 .get (drop pendingAt b); slots = getAll slot slotCount (drop slotsAt b); streams = getAll flag streamCount (drop streamsAt b); active = getD b activeAt 0 }
   unfolding stateOf
   state-get =
       let d : ℕ = number 1 .get b in
-      let p : ℕ = number 2 .get (drop pendingAt b) in
+      let p : ℕ = number 3 .get (drop pendingAt b) in
       let slots : List Slot = getAll slot slotCount (drop slotsAt b) in
       let streams : List Bool = getAll flag streamCount (drop streamsAt b) in
       ap ofParts (both-get (number 1) fromPending b 0 pendingAt refl)
-      ∙ ap (λ t. ofParts (d, t)) (both-get (number 2) fromSlots b pendingAt slotsAt refl)
+      ∙ ap (λ t. ofParts (d, t)) (both-get (number 3) fromSlots b pendingAt slotsAt refl)
       ∙ ap (λ t. ofParts (d, (p, t))) (both-get (many slot slotCount) fromStreams b slotsAt streamsAt refl)
       ∙ ap (λ t. ofParts (d, (p, (slots, t)))) (both-get (many flag streamCount) (number 1) b streamsAt activeAt refl)
       ∙ ap (λ n. ofParts (n, (p, (slots, (streams, number 1 .get (drop activeAt b)))))) (add-zero (getD b 0 0))
       ∙ ap (λ n. ofParts (getD b 0 0, (p, (slots, (streams, n))))) (add-zero (getD (drop activeAt b) 0 0) ∙ byte-get b activeAt)
 
   pub state-made : (n : ℕ) (slots : List Slot) (streams : List Bool)
-      → n ≡ number 2 .get (drop pendingAt b) → slots ≡ getAll slot slotCount (drop slotsAt b) → streams ≡ getAll flag streamCount (drop streamsAt b)
+      → n ≡ number 3 .get (drop pendingAt b) → slots ≡ getAll slot slotCount (drop slotsAt b) → streams ≡ getAll flag streamCount (drop streamsAt b)
       → _≡_ {A = Channel} (record { dead = getD b 0 0; pending = n; slots = slots; streams = streams; active = getD b activeAt 0 }) (stateOf b)
   state-made n slots streams e f g = rw (e, f, g) (sym state-get)
 
@@ -136,20 +136,20 @@ module _ (b : List ℕ) where
   state-same h = ap (λ (x : Bool). x && channel .good b) (eq-eqb _ _ h) ∙ state-good
 
 -- in the steps of the code
-pub state-put : (b c d e g : List ℕ) (s : Channel) → c ≡ write (set b 0 (s .dead)) pendingAt (number 2 .put (s .pending))
+pub state-put : (b c d e g : List ℕ) (s : Channel) → c ≡ write (set b 0 (s .dead)) pendingAt (number 3 .put (s .pending))
     → d ≡ write c slotsAt (putAll slot (s .slots)) → e ≡ write d streamsAt (putAll flag (s .streams)) → g ≡ set e activeAt (s .active)
     → length b ≡ stateLength → s .dead < 256 → length (s .slots) ≡ slotCount → length (s .streams) ≡ streamCount → s .active < 256 → g ≡ encode s
 unfolding encode
 state-put b c d e g s c-is d-is e-is g-is size dead-small slot-count stream-count active-small =
     let dead : s .dead ∷ [] ≡ number 1 .put (s .dead) = ap (λ (x : ℕ). x ∷ []) (sym (mod-eq-of-lt dead-small)) in
     let active : s .active ∷ [] ≡ number 1 .put (s .active) = ap (λ (x : ℕ). x ∷ []) (sym (mod-eq-of-lt active-small)) in
-    let p : List ℕ = number 2 .put (s .pending) in
+    let p : List ℕ = number 3 .put (s .pending) in
     let slots : List ℕ = putAll slot (s .slots) in
     let streams : List ℕ = putAll flag (s .streams) in
     let n : List ℕ = s .active ∷ [] in
     let x : length slots ≡ 6 * length (s .slots) = putAll-length slot (s .slots) (λ x. refl) in
     let y : length streams ≡ 1 * length (s .streams) = putAll-length flag (s .streams) (λ x. refl) in
-    let z : length (p ++ (slots ++ (streams ++ n))) ≡ 179 = omega (arith, length-append p (slots ++ (streams ++ n)), length-append slots (streams ++ n), length-append streams n) in
+    let z : length (p ++ (slots ++ (streams ++ n))) ≡ 180 = omega (arith, length-append p (slots ++ (streams ++ n)), length-append slots (streams ++ n), length-append streams n) in
     g-is
     ∙ set-write e activeAt (s .active)
     ∙ ap (λ (w : List ℕ). write w activeAt n) e-is

@@ -63,7 +63,7 @@ slot-lawful =
 abbrev StateIn : Channel → Type 0
 StateIn s =
     InBytes 1 (s .dead)
-    × (InBytes 2 (s .pending)
+    × (InBytes 3 (s .pending)
     × (((length (s .slots) ≡ slotCount) × AllFit SlotIn (s .slots))
     × (((length (s .streams) ≡ streamCount) × AllFit Any (s .streams))
     × InBytes 1 (s .active))))
@@ -72,7 +72,7 @@ channel-lawful : Lawful channel StateIn
 channel-lawful =
     standing-lawful
     (both-lawful (number-lawful 1)
-    (both-lawful (number-lawful 2)
+    (both-lawful (number-lawful 3)
     (both-lawful (many-lawful slot-lawful slotCount)
     (both-lawful (many-lawful flag-lawful streamCount)
     (number-lawful 1)))))

@@ -1,5 +1,5 @@
--- A channel's state in bytes: its dead number (1), its pending count (2), eight slots of id (2), phase (1), data bit (1) and length (2), a
--- byte for each of the 128 streams, and its count of active requests (1), 180 in all. Numbers are little-endian, as wide as rule 3 lets them
+-- A channel's state in bytes: its dead number (1), its pending count (3), eight slots of id (2), phase (1), data bit (1) and length (2), a
+-- byte for each of the 128 streams, and its count of active requests (1), 181 in all. Numbers are little-endian, as wide as rule 3 lets them
 -- grow; a phase has its code, a bool 1 for true. These are definitions: they assume nothing.
 use Prim.Native.Nat.{ℕ, _<_, _^_}
 use mathlib.Core.Bool.{Bool}
@@ -53,7 +53,7 @@ abbrev pub channel : Field Channel
 channel =
     standing
     (both (number 1)
-    (both (number 2)
+    (both (number 3)
     (both (many slot slotCount)
     (both (many flag streamCount)
     (number 1)))))
@@ -68,7 +68,7 @@ pub record SlotFits (x : Slot) : Type 0 where
 
 pub record StateFits (s : Channel) : Type 0 where
   pub dead : s .dead < 2 ^ 8
-  pub pending : s .pending < 2 ^ 16
+  pub pending : s .pending < 2 ^ 24
   pub slotCount : length (s .slots) ≡ slotCount
   pub slots : AllFit SlotFits (s .slots)
   pub streamCount : length (s .streams) ≡ streamCount
@@ -80,16 +80,16 @@ abbrev pub pendingAt : ℕ
 pendingAt = 1
 
 abbrev pub slotsAt : ℕ
-slotsAt = 3
+slotsAt = 4
 
 abbrev pub streamsAt : ℕ
-streamsAt = 51
+streamsAt = 52
 
 abbrev pub activeAt : ℕ
-activeAt = 179
+activeAt = 180
 
 abbrev pub stateLength : ℕ
-stateLength = 180
+stateLength = 181
 
 -- ---- a state to bytes, and bytes to a state
 

@@ -8,7 +8,7 @@ ghost use Prim.Native.Nat.{_+_, _*_, _≤_};
 ghost use lib.ListN.{length, drop};
 ghost use Rattle.buffer.specs.Bytes.{write};
 ghost use Rattle.fields.specs.Fields.{number, flag, getAll, goodAll, putAll};
-ghost use Rattle.layout.specs.State.{phaseOf, slot, slotsAt, streamsAt, stateLength, encode, isState, stateOf, stateFrom, stateInto};
+ghost use Rattle.layout.specs.State.{phaseOf, slot, pendingAt, slotsAt, streamsAt, stateLength, encode, isState, stateOf, stateFrom, stateInto};
 
 // Where each part of a slot stands in the slot's bytes, and how many there are.
 const ID: usize = 0;
@@ -26,7 +26,7 @@ const DEAD: usize = 0;
 
 const PENDING: usize = DEAD + 1;
 
-const SLOTS: usize = PENDING + 2;
+const SLOTS: usize = PENDING + 3;
 
 const STREAMS: usize = SLOTS + 8 * SLOT;
 
@@ -52,6 +52,15 @@ fn number_at(b: &[u8], at: usize) -> u16
     ensures { λ r. ⌜ r ≡ number 2 .get (drop at (now (b .entry))) ⌝ }
 {
     number(b[at], b[at + 1])
+}
+
+// The pending count, in three bytes.
+fn pending_of(b: &[u8]) -> usize
+    requires { ⌜ slotsAt ≤ length (now b) ⌝ }
+    ensures { λ r. ⌜ r ≡ number 3 .get (drop pendingAt (now (b .entry))) ⌝ }
+{
+    let high = b[PENDING + 2] as usize;
+    number_at(b, PENDING) as usize + 65536 * high
 }
 
 // The phase of a code.
@@ -114,7 +123,7 @@ fn read_state(b: &[u8]) -> Channel
     let streams = streams_of(b);
     Channel {
         dead: b[DEAD],
-        pending: number_at(b, PENDING) as usize,
+        pending: pending_of(b),
         slots,
         streams,
         active: b[ACTIVE],
@@ -192,6 +201,15 @@ fn put_number(b: &mut [u8], at: usize, n: usize)
     b[at + 1] = (n / 256 % 256) as u8;
 }
 
+// Puts the pending count into its three bytes.
+fn put_pending(b: &mut [u8], n: usize)
+    requires { ⌜ slotsAt ≤ length (now b) ⌝ }
+    ensures { λ _. ⌜ now (b .exit) ≡ write (now (b .entry)) pendingAt (number 3 .put n) ⌝ }
+{
+    put_number(b, PENDING, n);
+    b[PENDING + 2] = (n / 65536 % 256) as u8;
+}
+
 // Puts a slot into the bytes from a place on.
 fn put_slot(b: &mut [u8], at: usize, x: Slot)
     requires { ⌜ at + slot .width ≤ length (now b) ⌝ }
@@ -232,7 +250,7 @@ fn write_state(b: &mut [u8], s: Channel)
     ensures { λ _. ⌜ now (b .exit) ≡ encode s ⌝ }
 {
     b[DEAD] = s.dead;
-    put_number(b, PENDING, s.pending);
+    put_pending(b, s.pending);
     let slots = s.slots;
     put_slots(b, slots);
     let streams = s.streams;

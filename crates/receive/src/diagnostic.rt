@@ -32,22 +32,30 @@ struct Walk {
 
 // A byte string: as text in quotes where each byte can stand there as it is, in hex otherwise.
 pub(crate) fn put_bytes(bytes: &[u8], out: &mut Text, at: usize) -> usize {
-    let end = put_content(bytes, out, at);
-    text::put(b"'", out, end)
+    let as_text = is_text(bytes);
+    let a = put_start(as_text, out, at);
+    let b = put_content(bytes, as_text, out, a);
+    text::put(b"'", out, b)
 }
 
-// A byte string but for the quote at its end.
-fn put_content(bytes: &[u8], out: &mut Text, at: usize) -> usize {
-    if is_text(bytes) {
-        let a = text::put(b"'", out, at);
-        return text::put(bytes, out, a);
+// The start of a byte string, with the quote.
+pub(crate) fn put_start(as_text: bool, out: &mut Text, at: usize) -> usize {
+    if as_text {
+        return text::put(b"'", out, at);
     }
-    let a = text::put(b"h'", out, at);
-    text::put_hex(bytes, out, a)
+    text::put(b"h'", out, at)
+}
+
+// What stands between the quotes of a byte string, or a part of it.
+pub(crate) fn put_content(bytes: &[u8], as_text: bool, out: &mut Text, at: usize) -> usize {
+    if as_text {
+        return text::put(bytes, out, at);
+    }
+    text::put_hex(bytes, out, at)
 }
 
 // Whether each byte can stand in quotes as it is, which holds where there is none.
-fn is_text(bytes: &[u8]) -> bool {
+pub(crate) fn is_text(bytes: &[u8]) -> bool {
     let mut i: usize = 0;
     while i < bytes.len() {
         if !is_plain(bytes[i]) {

@@ -1,6 +1,7 @@
-// One input: it is read in pieces, and each goes to the channel. Held are a piece of it, the channel's work area, one record and one line.
+// One input: it is read in pieces, and each goes to the channel. Held are a piece of it, the channel's work area, one record and a text.
 use crate::say;
 use channel::Channel;
+use libc::STDOUT_FILENO;
 ghost use mathlib.Core.Path.{_≡_};
 ghost use mathlib.Core.Bool.{true, false};
 ghost use Prim.Native.Nat.{_≤_, _<_};
@@ -72,7 +73,7 @@ fn read_some(run: Run, input: Input, name: &[u8], work: &mut Work, out: &mut Out
     let mut piece = io::large_buffer();
     let got = libc::read(input.file, &mut piece);
     if got < 0 {
-        say::say_unread(name, os::errno());
+        files::say_unread(STDOUT_FILENO, name, os::errno());
         return ended(run);
     }
     if input.is_titled & (run.place == 0) {

@@ -1,31 +1,23 @@
-// The lines of records. Each function puts its text into a buffer, and answers the position after it.
+// The lines of records. Each function puts a text into a buffer, and answers the position after it.
 use crate::diagnostic;
 use cbor::Item;
 use command_map::Checked;
 use entries::Entry;
 use records::Head;
 
-// Room for the longest line, of fewer than 15,000 bytes: a command of 2,048 bytes becomes at most seven times as long.
-pub(crate) type Text = [u8; 24576];
+// Room for the longest line of a command, of fewer than 15,000 bytes: a command of 2,048 bytes becomes at most seven times as long. Data
+// may be longer.
+pub(crate) const ROOM: usize = 16384;
 
-// A record's line.
-pub(crate) fn put_record(record: &[u8], out: &mut Text) -> usize {
-    let head = records::read_head(record);
-    let content = records::content(record);
-    let end = if head.kind == 1 {
-        put_command(head, content, out)
-    } else {
-        put_data(head, content, out)
-    };
-    text::put(b"\n", out, end)
-}
+pub(crate) type Text = [u8; ROOM];
 
-// A command that is whole.
-fn put_command(head: Head, command: &[u8], out: &mut Text) -> usize {
+// The line of a command that is whole.
+pub(crate) fn put_command(head: Head, command: &[u8], out: &mut Text) -> usize {
     let a = put_head(head, b"command ", b" data ", out);
     let b = put_counted(b" loose ", head.loose as u64, out, a);
     let c = put_call(command, out, b);
-    put_redirect(command, out, c)
+    let d = put_redirect(command, out, c);
+    text::put(b"\n", out, d)
 }
 
 // The name and the arguments. The channel's commands pass the check: nothing is put of other bytes.
@@ -65,12 +57,18 @@ fn put_redirect(command: &[u8], out: &mut Text, at: usize) -> usize {
     diagnostic::put_map(command, count, first, out, a)
 }
 
-// Data of a request.
-fn put_data(head: Head, data: &[u8], out: &mut Text) -> usize {
+// The line of a request's data up to its first byte. The bytes are to stand as text, or in hex.
+pub(crate) fn put_data_start(head: Head, length: usize, as_text: bool, out: &mut Text) -> usize {
     let a = put_head(head, b"data ", b" last ", out);
-    let b = put_counted(b" ", data.len() as u64, out, a);
+    let b = put_counted(b" ", length as u64, out, a);
     let c = text::put(b" bytes ", out, b);
-    diagnostic::put_bytes(data, out, c)
+    diagnostic::put_start(as_text, out, c)
+}
+
+// The line of a request's data from its last bytes on.
+pub(crate) fn put_data_end(bytes: &[u8], as_text: bool, out: &mut Text, at: usize) -> usize {
+    let a = diagnostic::put_content(bytes, as_text, out, at);
+    text::put(b"'\n", out, a)
 }
 
 // A record's request and bit, each behind its words.

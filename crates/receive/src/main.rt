@@ -8,6 +8,7 @@ mod words;
 
 use input::Input;
 use libc::STDIN_FILENO;
+use libc::STDOUT_FILENO;
 
 fn main() {
     let count = os::arg_count();
@@ -38,15 +39,15 @@ fn take_argument(i: usize, is_titled: bool) {
     let mut word = io::buffer();
     let n = os::arg(i, &mut word);
     if n == 0 {
-        say::say_nameless(i, os::errno());
+        files::say_nameless(STDOUT_FILENO, i, os::errno());
         return;
     }
     take_word(keys::part(&word, 0, n), is_titled);
 }
 
-// An option begins with a dash; a dash alone is standard input.
+// An option, or a file's name.
 fn take_word(word: &[u8], is_titled: bool) {
-    if (1 < word.len()) & (frame::byte_at(word, 0) == b'-') {
+    if files::is_option(word) {
         answer(word);
         return;
     }
@@ -59,26 +60,18 @@ fn answer(option: &[u8]) {
         say::say_help();
         return;
     }
-    say::say_unknown(option);
+    files::say_unknown(STDOUT_FILENO, option, b"receive");
 }
 
 // Opens a file, takes what is in it and closes it. Standard input stays open, for an argument behind.
 fn take_file(name: &[u8], is_titled: bool) {
-    let file = opened(name);
+    let file = files::opened(name);
     if file < 0 {
-        say::say_unread(name, os::errno());
+        files::say_unread(STDOUT_FILENO, name, os::errno());
         return;
     }
     input::take_input(Input { file, is_titled }, name);
     if file != STDIN_FILENO {
         libc::close(file);
     }
-}
-
-// A file that is open for reading, or -1.
-fn opened(name: &[u8]) -> i32 {
-    if keys::same_key(name, b"-") {
-        return STDIN_FILENO;
-    }
-    os::open_read(name)
 }

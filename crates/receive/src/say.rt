@@ -1,17 +1,47 @@
-// Writes to standard output. The line of a record goes there by one call, and the other lines, of which there are few, in parts.
+// Writes to standard output. A record's line goes there by one call, or, where it is long data, by some; the other lines, of which there
+// are few, go in parts.
+use crate::diagnostic;
 use crate::line;
 use crate::line::Text;
 use crate::words;
 use libc::STDOUT_FILENO;
+use records::Head;
+
+// How many bytes of data are put into a text at a time: of a whole text less than half, since a byte may become two hex digits, and the
+// line's start and end stand there too.
+const PIECE: usize = 8000;
 
 // Writes the line of a record, where there is one, and answers whether the output took it.
 pub(crate) fn say_record(record: &[u8]) -> bool {
     if record.len() == 0 {
         return true;
     }
-    let mut text = [0u8; 24576];
-    let n = line::put_record(record, &mut text);
-    say_front(&text, n)
+    let head = records::read_head(record);
+    let content = records::content(record);
+    let mut text = [0u8; line::ROOM];
+    if head.kind == 1 {
+        let n = line::put_command(head, content, &mut text);
+        return say_front(&text, n);
+    }
+    say_data(head, content, &mut text)
+}
+
+// Writes the line of a request's data, which may be longer than a text, and answers whether the output took it. Whether the data stands as
+// text or in hex is known of all of it before the first byte is written.
+fn say_data(head: Head, data: &[u8], text: &mut Text) -> bool {
+    let as_text = diagnostic::is_text(data);
+    let mut n = line::put_data_start(head, data.len(), as_text, text);
+    let mut i: usize = 0;
+    while PIECE < data.len() - i {
+        n = diagnostic::put_content(&data[i..i + PIECE], as_text, text, n);
+        if !say_front(text, n) {
+            return false;
+        }
+        n = 0;
+        i += PIECE;
+    }
+    n = line::put_data_end(&data[i..], as_text, text, n);
+    say_front(text, n)
 }
 
 // Writes the first n bytes of a text, and answers whether the output took them.
@@ -40,28 +70,6 @@ pub(crate) fn say_end(pending: usize) {
 pub(crate) fn say_title(name: &[u8]) {
     say(name);
     say(b":\n");
-}
-
-// Writes that an input cannot be read, and why, by errno's number. Standard input has no name where no argument names it.
-pub(crate) fn say_unread(name: &[u8], error: i32) {
-    if name.len() == 0 {
-        say(b"the input cannot be read\n");
-        return;
-    }
-    say(name);
-    words::say_reason(error);
-}
-
-// The same of an argument that is no name: it is empty, or longer than a path.
-pub(crate) fn say_nameless(i: usize, error: i32) {
-    say_counted(b"argument ", i as u64);
-    words::say_reason(error);
-}
-
-// Writes that an option is not known.
-pub(crate) fn say_unknown(option: &[u8]) {
-    say(option);
-    say(b": unknown option; receive --help says what there is\n");
 }
 
 // Writes what the program does.

@@ -16,7 +16,7 @@ numberAt s i = getD s i 0 + 256 * getD s (i + 1) 0
 -- the head: behind the body's length the kind, the request and a byte. That byte's lowest bit is a command's data bit or data's last bit,
 -- and the next one the mark of a command that is written loosely (E5)
 unfoldable pub headOf : List ℕ → Head
-headOf s = record { kind = numberAt s 2; request = numberAt s 4; bit = getD s 6 0 % 2; loose = getD s 6 0 / 2 % 2 }
+headOf s = record { kind = numberAt s 4; request = numberAt s 6; bit = getD s 8 0 % 2; loose = getD s 8 0 / 2 % 2 }
 
 -- a record that makes its request run: a command that no data follows, loosely written or not, or the last data
 unfoldable pub runs : Head → Bool
@@ -25,7 +25,7 @@ runs h = (eqb (h .kind) 1 && eqb (h .bit) 0) || (eqb (h .kind) 2 && eqb (h .bit)
 -- what feed writes of a request is what is read back
 pub record ReadBack (kind request bit loose : ℕ) (bytes : List ℕ) : Type 0 where
   pub head : headOf (requestRecord kind request (bit + 2 * loose) bytes) ≡ record { kind = kind; request = request; bit = bit; loose = loose }
-  pub content : drop 7 (requestRecord kind request (bit + 2 * loose) bytes) ≡ bytes
+  pub content : drop 9 (requestRecord kind request (bit + 2 * loose) bytes) ≡ bytes
 
 abbrev pub AllReadBack : Type 0
 AllReadBack = (kind request bit loose : ℕ) (bytes : List ℕ) → kind < 65536 → request < 65536 → bit < 2 → loose < 2 → ReadBack kind request bit loose bytes

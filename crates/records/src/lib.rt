@@ -17,10 +17,10 @@ pub struct Head {
 pub fn read_head(bytes: &[u8]) -> Head
     ensures { λ r. ⌜ r ≡ headOf (now (bytes .entry)) ⌝ }
 {
-    let third = frame::byte_at(bytes, 6);
+    let third = frame::byte_at(bytes, 8);
     Head {
-        kind: number_at(bytes, 2),
-        request: number_at(bytes, 4),
+        kind: number_at(bytes, 4),
+        request: number_at(bytes, 6),
         bit: third % 2,
         loose: third / 2 % 2,
     }
@@ -28,9 +28,9 @@ pub fn read_head(bytes: &[u8]) -> Head
 
 // The bytes behind the head: a command or data.
 pub fn content(bytes: &[u8]) -> &[u8]
-    ensures { λ r. ⌜ now r ≡ drop 7 (now (bytes .entry)) ⌝ }
+    ensures { λ r. ⌜ now r ≡ drop 9 (now (bytes .entry)) ⌝ }
 {
-    keys::part(bytes, 7, bytes.len())
+    keys::part(bytes, 9, bytes.len())
 }
 
 impl Head {

@@ -15,7 +15,8 @@ use Rattle.rules.proofs.Bools.{by-cond}
 use Rattle.command.specs.Command.{checked, numberOf}
 use Rattle.sender.specs.declared.Wishes.{Wishes}
 use Rattle.sender.specs.Frames.{commandFrame, dataFrame, frames, fullFrames, commandFrames, dataFrames, messageFrames, total}
-use Rattle.sender.specs.Send.{maxSize, refused, framesInto, sendOf}
+use Rattle.buffer.specs.Answers.{refused}
+use Rattle.sender.specs.Send.{maxSize, framesInto, sendOf}
 use Rattle.sender.proofs.FrameLaws.{all-long}
 use Rattle.round_trip.specs.Frames.{Filled, full, last, appliesEncoding, onNone, onFirst, onLast, Flagged, MessageFramed, TotalLength, Exact, ExactTotal}
 use Rattle.round_trip.proofs.FlagLaws.{stream-flags}

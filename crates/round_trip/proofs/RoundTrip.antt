@@ -24,7 +24,8 @@ use Rattle.demands.proofs.Demand3.{ok, demand3}
 use Rattle.sender.specs.declared.Wishes.{Wishes}
 use Rattle.sender.specs.Parts.{commandBytes}
 use Rattle.sender.specs.Frames.{dataFrame, frames, fullFrames, commandFrames, dataFrames, messageFrames, allBytes, total}
-use Rattle.sender.specs.Send.{maxSize, Answer, refused, wrote, framesInto, sendOf}
+use Rattle.buffer.specs.Answers.{Answer, refused}
+use Rattle.sender.specs.Send.{maxSize, wrote, framesInto, sendOf}
 use Rattle.sender.proofs.FrameLaws.{all-long, all-append}
 use Rattle.round_trip.specs.RoundTrip.{Fits, Ready, dataRecords, joined, payloads, running, Arrives, writtenBytes, RoundTrip}
 use Rattle.round_trip.proofs.Frames.{rest-fits}

@@ -9,7 +9,8 @@ use lib.ListN.{length}
 use Rattle.frame.specs.Frame.{Frame, flag, begins, ends}
 use Rattle.sender.specs.declared.Wishes.{Wishes}
 use Rattle.sender.specs.Frames.{commandFrames, dataFrames, messageFrames, allBytes, total}
-use Rattle.sender.specs.Send.{Answer, sendOf}
+use Rattle.buffer.specs.Answers.{Answer}
+use Rattle.sender.specs.Send.{sendOf}
 
 -- ---- how full they are
 

@@ -20,7 +20,8 @@ use Rattle.demands.specs.Demands.{Sound}
 use Rattle.sender.specs.declared.Wishes.{Wishes}
 use Rattle.sender.specs.Parts.{commandBytes}
 use Rattle.sender.specs.Frames.{dataFrames}
-use Rattle.sender.specs.Send.{Answer, sendOf}
+use Rattle.buffer.specs.Answers.{Answer}
+use Rattle.sender.specs.Send.{sendOf}
 
 -- ---- before
 

@@ -6,7 +6,8 @@ use mathlib.Core.Bool.{true, false}
 use mathlib.Core.List.{List, [], _∷_}
 use lib.ListN.{replicate}
 use Rattle.sender.specs.Parts.{commandBytes}
-use Rattle.sender.specs.Send.{Answer, answer, sendOf}
+use Rattle.buffer.specs.Answers.{Answer, answer}
+use Rattle.sender.specs.Send.{sendOf}
 
 -- `set` with no arguments
 abbrev pub set-command : List ℕ

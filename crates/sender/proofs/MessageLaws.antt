@@ -14,7 +14,8 @@ use Rattle.buffer.specs.Bytes.{write}
 use Rattle.buffer.proofs.WriteLaws.{write-also}
 use Rattle.sender.specs.declared.Wishes.{Wishes}
 use Rattle.sender.specs.Frames.{commandFrame, dataFrame, frames, fullFrames, commandFrames, dataFrames, messageFrames, allBytes, total}
-use Rattle.sender.specs.Send.{answer, refused, framesInto}
+use Rattle.buffer.specs.Answers.{answer, refused}
+use Rattle.sender.specs.Send.{framesInto}
 use Rattle.sender.specs.Steps.{frameFor, typeBytes}
 use Rattle.sender.proofs.FrameLaws.{all-long, all-append, frames-total, carries}
 

@@ -17,7 +17,8 @@ use Rattle.command.specs.Command.{checked, numberOf}
 use Rattle.sender.specs.declared.Wishes.{Wishes}
 use Rattle.sender.specs.Parts.{commandBytes, pairsEnd, nameFits, partsChecked}
 use Rattle.sender.specs.Frames.{messageFrames}
-use Rattle.sender.specs.Send.{Answer, maxSize, refused, framesInto, sendOf}
+use Rattle.buffer.specs.Answers.{Answer, refused}
+use Rattle.sender.specs.Send.{maxSize, framesInto, sendOf}
 use Rattle.sender.specs.Steps.{wishNumber}
 use Rattle.sender.proofs.PartLaws.{checked-by-parts}
 use Rattle.sender.proofs.CommandLaws.{command-long}

@@ -5,6 +5,7 @@ use mathlib.Core.Bool.{Bool, cond, _||_, not}
 use mathlib.Core.List.{List}
 use lib.ListN.{length}
 use lib.Dec.{ltb, eqb}
+use Rattle.buffer.specs.Answers.{Answer, answer, refused}
 use Rattle.buffer.specs.Bytes.{write}
 use Rattle.frame.specs.Frame.{Frame, isEven}
 use Rattle.frame.specs.Limits.{maxCommand}
@@ -15,19 +16,6 @@ use Rattle.sender.specs.Frames.{messageFrames, allBytes, total}
 -- the largest payload size that may be wished
 abbrev pub maxSize : ℕ
 maxSize = 4096
-
--- 0 or the refusal, the bytes written, and the output after the call
-pub record Answer : Type 0 where
-  pub number : ℕ
-  pub written : ℕ
-  pub output : List ℕ
-
-abbrev pub answer : ℕ → ℕ → List ℕ → Answer
-answer number written output = record { number = number; written = written; output = output }
-
--- the output unchanged
-abbrev pub refused : ℕ → List ℕ → Answer
-refused n out = answer n 0 out
 
 -- output past the bytes written stays
 abbrev pub wrote : List Frame → List ℕ → Answer

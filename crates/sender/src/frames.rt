@@ -9,7 +9,8 @@ ghost use lib.Dec.{leb};
 ghost use Rattle.buffer.specs.Bytes.{write};
 ghost use Rattle.frame.specs.Frame.{headerFor, frameBytes};
 ghost use Rattle.sender.specs.Frames.{flagIf, streamFlags, commandFlags, dataFlags, fullFrames, messageFrames};
-ghost use Rattle.sender.specs.Send.{answer, framesInto};
+ghost use Rattle.buffer.specs.Answers.{answer};
+ghost use Rattle.sender.specs.Send.{framesInto};
 ghost use Rattle.sender.specs.Steps.{frameFor, typeBytes};
 
 // A flag's value where it is set.

@@ -4,7 +4,8 @@ mod parts;
 
 ghost use mathlib.Core.Path.{_≡_};
 ghost use Rattle.sender.specs.Parts.{commandBytes};
-ghost use Rattle.sender.specs.Send.{answer, sendOf};
+ghost use Rattle.buffer.specs.Answers.{answer};
+ghost use Rattle.sender.specs.Send.{sendOf};
 ghost use Rattle.sender.specs.Steps.{wishNumber};
 
 // The largest payload size that may be wished.

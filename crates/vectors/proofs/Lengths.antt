@@ -5,6 +5,7 @@ use Prim.Native.Nat.{ℕ, zero-le, _+_, _-_, _*_, _/_, _%_, _≤_}
 use native.Mathlib.Omega.{arith}
 use lib.Dec.{eqb}
 use lib.ListN.{length, take, length-append, length-take}
+use Rattle.frame.specs.Limits.{maxCommand}
 use Rattle.cbor.specs.declared.Item.{Item}
 use Rattle.cbor.specs.declared.Item.the-variants.{Unsigned, Negative, Bytes, Simple, Array, Map, Set, Refused}
 use Rattle.cbor.specs.Cbor.{isItem, itemAt}
@@ -38,7 +39,7 @@ fault-length number what = simp length-append (omega (arith, decimal-length numb
 answer-length : (s : List ℕ) → length (answerOf s) ≤ 2 * length s + 39
 answer-length s = simp (length-append, hex-length) (omega (arith, either-length (isItem s) (kindOf (itemAt s 0)) outside-word 38 (kind-length (itemAt s 0)) (omega arith)))
 
-module _ (number held : ℕ) (item : List ℕ) (h : length item ≤ 2048) where
+module _ (number held : ℕ) (item : List ℕ) (h : length item ≤ maxCommand) where
   of-digits : length (saidOfDigits number held item) ≤ 4135
   of-digits =
       either-length (eqb held 0) (faultOf number no-digits) _ 4135 (omega (arith, fault-length number no-digits))

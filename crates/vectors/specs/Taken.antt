@@ -1,9 +1,10 @@
 -- The states of a line, and what one byte of it does where a digit may stand. These are definitions: they assume nothing.
-use Prim.Native.Nat.{ℕ, _+_, _<_, min}
+use Prim.Native.Nat.{ℕ, _+_, _*_, _<_, min}
 use mathlib.Core.Path.{_≡_}
 use mathlib.Core.Bool.{Bool, true, false, cond, _&&_}
 use mathlib.Core.List.{List}
 use lib.Dec.{eqb, leb, ltb}
+use Rattle.frame.specs.Limits.{maxCommand}
 use Rattle.vectors.specs.declared.line.Part.{Part}
 use Rattle.vectors.specs.declared.line.Part.the-variants.{Digits, Note, Comment, NotHex, TooLong}
 use Rattle.vectors.specs.declared.line.State.{State}
@@ -33,7 +34,7 @@ partAfter held b =
     (cond (eqb b 9) Note
     (cond (eqb b 35 && eqb held 0) Comment
     (cond (ltb 15 (digitOf b)) NotHex
-    (cond (leb 4096 held) TooLong
+    (cond (leb (2 * maxCommand) held) TooLong
     Digits))))
 
 -- the same line in a part

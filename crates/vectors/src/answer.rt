@@ -10,7 +10,7 @@ ghost use Rattle.vectors.specs.Said.{saidOf, saidOfDigits};
 
 // What there is to say of a whole line: nothing of one that is skipped. The longest has 4,135 bytes: the 4,096 digits of an item's
 // 2,048 bytes, 38 for the longest kind and number, and a newline.
-pub fn said(state: State, item: &[u8; 2048], out: &mut [u8; 4160]) -> usize
+pub fn said(state: State, item: &[u8; frame::MAX_COMMAND], out: &mut [u8; 4160]) -> usize
     ensures { λ r. ⌜ Line (saidOf (state .number) (state .part) (state .held) (now (item .entry))) (now (out .exit)) r ⌝ }
 {
     put_said(state, item, out)

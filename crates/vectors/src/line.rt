@@ -60,8 +60,11 @@ pub fn after(state: State, is_written: bool) -> State
     }
 }
 
+// An item has at most as many bytes as a command, each in two digits.
+const MOST_DIGITS: usize = 2 * frame::MAX_COMMAND;
+
 // Takes a byte where a digit may stand.
-pub fn take_digit(state: State, b: u8, item: &mut [u8; 2048]) -> State
+pub fn take_digit(state: State, b: u8, item: &mut [u8; frame::MAX_COMMAND]) -> State
     ensures { λ r. ⌜ Taken state b (now (item .entry)) r (now (item .exit)) ⌝ }
 {
     if b == b' ' {
@@ -80,7 +83,7 @@ pub fn take_digit(state: State, b: u8, item: &mut [u8; 2048]) -> State
     if 15 < d {
         return in_part(state, Part::NotHex);
     }
-    if 4096 <= held {
+    if MOST_DIGITS <= held {
         return in_part(state, Part::TooLong);
     }
     store(d, held, item);

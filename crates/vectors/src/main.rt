@@ -10,7 +10,7 @@ use line::State;
 
 // A proved loop has to end, and nothing says that the input does. So the loop counts its turns down, from a number that no run uses up.
 fn main() {
-    let mut item = [0u8; 2048];
+    let mut item = [0u8; frame::MAX_COMMAND];
     let mut state = line::first();
     let mut turns = u64::MAX;
     while turns > 0 {
@@ -23,7 +23,7 @@ fn main() {
 }
 
 // Reads once and takes what came. At the end of the input the last line ends too.
-fn read_some(state: State, item: &mut [u8; 2048]) -> State {
+fn read_some(state: State, item: &mut [u8; frame::MAX_COMMAND]) -> State {
     let mut piece = io::buffer();
     let got = libc::read(STDIN_FILENO, &mut piece);
     if got < 0 {
@@ -37,7 +37,7 @@ fn read_some(state: State, item: &mut [u8; 2048]) -> State {
 }
 
 // Takes bytes in order, until the output fails.
-fn take_all(state: State, bytes: &[u8], item: &mut [u8; 2048]) -> State {
+fn take_all(state: State, bytes: &[u8], item: &mut [u8; frame::MAX_COMMAND]) -> State {
     let mut s = state;
     let mut i: usize = 0;
     while i < bytes.len() {
@@ -51,7 +51,7 @@ fn take_all(state: State, bytes: &[u8], item: &mut [u8; 2048]) -> State {
 }
 
 // Takes one byte.
-fn take(state: State, b: u8, item: &mut [u8; 2048]) -> State {
+fn take(state: State, b: u8, item: &mut [u8; frame::MAX_COMMAND]) -> State {
     if b == b'\n' {
         return finish(state, item);
     }
@@ -63,7 +63,7 @@ fn take(state: State, b: u8, item: &mut [u8; 2048]) -> State {
 }
 
 // Writes what there is to say of the line that ends here, and begins the next.
-fn finish(state: State, item: &[u8; 2048]) -> State {
+fn finish(state: State, item: &[u8; frame::MAX_COMMAND]) -> State {
     let mut out = [0u8; 4160];
     let n = answer::said(state, item, &mut out);
     let is_written = io::write_all(STDOUT_FILENO, &out[..n]);

@@ -5,6 +5,7 @@
 use crate::commands;
 use crate::loose::one_loose;
 use crate::random::Random;
+use crate::sizes::{LONGEST_COMMAND, LONGEST_PAYLOAD, LONGEST_SENT, RECORD_HEAD, SLOTS};
 use std::collections::BTreeSet;
 
 pub const COMMAND: u8 = 1;
@@ -18,10 +19,6 @@ pub const NEW: u8 = 1;
 pub const CONTINUATION: u8 = 2;
 pub const MORE: u8 = 4;
 pub const WITH_DATA: u8 = 8;
-
-/// The most bytes of a command, and of a payload.
-pub const LONGEST_COMMAND: usize = 2048;
-pub const LONGEST_PAYLOAD: usize = 4096;
 
 /// Few, so that they come again, and with differing bytes.
 const IDS: [u16; 14] = [
@@ -99,7 +96,7 @@ fn good_command(random: &mut Random) -> Vec<u8> {
         0..=2 => b"\xa2\x44name\x43set\x44args\xa0".to_vec(),
         3 => b"\xa1\x44name\x43off".to_vec(),
         4 => {
-            let length = random.pick(&[100, 2047, LONGEST_COMMAND]);
+            let length = random.pick(&[100, LONGEST_COMMAND - 1, LONGEST_COMMAND]);
             command_of(length, random)
         }
         5 => short_enough(|| one_loose(random).command),
@@ -190,7 +187,7 @@ impl Client {
     }
 
     pub fn begin(&mut self, random: &mut Random) -> bool {
-        if self.requests.len() == 8 {
+        if self.requests.len() == SLOTS {
             return false;
         }
         let command = good_command(random);
@@ -235,7 +232,7 @@ impl Client {
         }
         let mut record = 0;
         if whole {
-            record = 7 + request.sent;
+            record = RECORD_HEAD + request.sent;
             request.phase = if request.data {
                 Phase::Waiting
             } else {
@@ -251,10 +248,13 @@ impl Client {
     fn data(&mut self, random: &mut Random) -> bool {
         let place = self.some(random, Some(Phase::Waiting));
         if let Some(place) = place {
-            let count = match random.below(30) {
-                0 => LONGEST_PAYLOAD,
-                1 => random.between(1, LONGEST_PAYLOAD),
-                2..=7 => 0,
+            let count = match random.below(300) {
+                0 => random.pick(&[LONGEST_PAYLOAD, LONGEST_PAYLOAD - 1]),
+                1 => random.between(LONGEST_SENT + 1, LONGEST_PAYLOAD),
+                2..=7 => LONGEST_SENT,
+                8..=11 => LONGEST_SENT + 1,
+                12..=20 => random.between(1, LONGEST_SENT),
+                21..=80 => 0,
                 _ => random.between(1, 40),
             };
             let last = random.percent(40);
@@ -272,7 +272,7 @@ impl Client {
         }
         let id = request.id;
         let flags = if last { 2 } else { 1 };
-        self.send(id, stream, DATA << 4 | flags, &payload, 7 + count);
+        self.send(id, stream, DATA << 4 | flags, &payload, RECORD_HEAD + count);
     }
 
     pub fn settings(&mut self, random: &mut Random) -> bool {

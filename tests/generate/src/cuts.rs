@@ -3,12 +3,12 @@
 
 use crate::client::Step;
 use crate::random::Random;
+use crate::sizes::{FRAME_HEAD, LARGEST_OUTPUT, LEAST_OUTPUT, LONGEST_COMMAND, PARTS, WORK};
 
-/// With less output left than this no frame's last byte is taken.
-pub const LEAST_OUTPUT: usize = 4103;
-const LARGEST_OUTPUT: usize = 100_000;
-/// What a line has room for.
-const LONGEST_INPUT: usize = 140_000;
+/// Three longest frames and some more.
+const LONGEST_INPUT: usize = 200_000;
+/// A frame with more is cut at its edges in the style for these.
+const LONG_FRAME: usize = 300;
 
 /// The client's bytes joined.
 #[derive(Default)]
@@ -64,6 +64,12 @@ impl Joined {
         to - from
     }
 
+    /// The length of the frame that ends here.
+    fn bytes_of(&self, end: usize) -> usize {
+        let earlier = self.ends.iter().map(|(end, _)| *end);
+        end - earlier.take_while(|other| *other < end).last().unwrap_or(0)
+    }
+
     fn next_end(&self, from: usize) -> usize {
         let mut later = self.ends.iter().map(|(end, _)| *end);
         later.find(|end| *end > from).unwrap_or(self.bytes.len())
@@ -82,6 +88,8 @@ enum Cut {
     Frame,
     /// All of a frame but its last byte, then that byte.
     BeforeLast,
+    /// The first bytes of a frame and its last ones singly, what is between at once.
+    Edges,
     /// All there is.
     Whole,
     Any,
@@ -113,6 +121,7 @@ impl Style {
                 Cut::Single,
                 Cut::Frame,
                 Cut::BeforeLast,
+                Cut::Edges,
                 Cut::Whole,
                 Cut::Any,
                 Cut::Any,
@@ -135,6 +144,17 @@ impl Style {
             Cut::Single => from + 1,
             Cut::Frame => end,
             Cut::BeforeLast => (end - 1).max(from + 1),
+            Cut::Edges => match end - from {
+                left @ 3.. if joined.bytes_of(end) > LONG_FRAME => {
+                    let at = joined.bytes_of(end) - left;
+                    if at <= FRAME_HEAD {
+                        from + 1
+                    } else {
+                        end - 2
+                    }
+                }
+                _ => from + 1,
+            },
             Cut::Whole => limit,
             Cut::Any => from + random.between(1, random_most(from, end)),
         };
@@ -143,7 +163,7 @@ impl Style {
 
     fn output(&self, joined: &Joined, from: usize, random: &mut Random) -> usize {
         if random.percent(3) {
-            return random.pick(&[0, 1, 2000, LEAST_OUTPUT - 1]);
+            return random.pick(&[0, 1, 2000, LEAST_OUTPUT - 1, LEAST_OUTPUT - 1]);
         }
         match self.output {
             Output::Least => LEAST_OUTPUT,
@@ -153,7 +173,10 @@ impl Style {
                 let records = joined.next_records(from, frames);
                 (records + LEAST_OUTPUT - random.below(2)).clamp(LEAST_OUTPUT, LARGEST_OUTPUT)
             }
-            Output::Large => random.pick(&[8205, 8206, 12_309, 20_000, LARGEST_OUTPUT]),
+            Output::Large => {
+                let two = 2 * LEAST_OUTPUT;
+                random.pick(&[two - 1, two, two + 9, two + LEAST_OUTPUT, LARGEST_OUTPUT])
+            }
         }
     }
 }
@@ -238,7 +261,8 @@ fn look(style: &Style, random: &mut Random, lines: &mut Vec<String>) {
         9 => "active".to_string(),
         10 => row(random),
         _ => {
-            let from = random.pick(&[0, 4090, 4104, 6150, 18_440, 20_480]);
+            let last = WORK - LONGEST_COMMAND;
+            let from = random.pick(&[0, PARTS - 10, PARTS, PARTS + 46, last - 4, WORK - 8]);
             format!("work {from} {}", from + random.below(9))
         }
     };

@@ -1,21 +1,20 @@
 //! Lines of `replay`, damaged.
 
 use crate::boards::board_step;
+use crate::logs::conversion;
 use crate::random::Random;
 use crate::sends::sending;
 use crate::sessions::session;
+use crate::sizes::LONGEST_LINE;
 
-/// The longest line that is read has this many characters.
-const LONGEST: usize = 300_000;
-
-/// The lines of a session, of a few requests to be sent and of a few commands for
-/// a board, of which every third or so is damaged, and between them lines of any
-/// bytes.
+/// The lines of a session, of a few requests to be sent, of a few commands for a
+/// board and of a few stored logs, of which every third or so is damaged, and
+/// between them lines of any bytes.
 pub fn garbled(seed: u64, index: u64) -> Vec<u8> {
     let start = Random::new(seed ^ 0x6a5b).next() ^ Random::new(!index).next();
     let random = &mut Random::new(start);
     let mut text = Vec::new();
-    let sends = (3 * index..3 * index + 3).map(|index| sending(seed, index).line());
+    let sends = (6 * index..6 * index + 6).map(|index| sending(seed, index).line());
     let short = sends.filter(|line| line.len() < 10_000);
     let looked = short.flat_map(|line| [line, "tail".to_string()]);
     let steps = (3 * index..3 * index + 3).flat_map(|index| board_step(seed, index).lines());
@@ -23,8 +22,11 @@ pub fn garbled(seed: u64, index: u64) -> Vec<u8> {
         let other = |call: &str| line.replace("board ", call);
         [other("count "), other("loose "), line]
     });
-    for line in session(seed, index).into_iter().chain(looked).chain(boards) {
-        if line.starts_with("set ") && random.percent(20) {
+    let logs = (3 * index..3 * index + 3).flat_map(|index| conversion(seed, index).lines());
+    let logs = logs.filter(|line| line.len() < 10_000);
+    let session = session(seed, index).into_iter();
+    for line in session.chain(looked).chain(boards).chain(logs) {
+        if line.starts_with("set ") && random.percent(30) {
             text.extend(too_wide(&line, random).into_bytes());
             text.push(b'\n');
         }
@@ -83,6 +85,10 @@ fn number(line: &mut Vec<u8>, random: &mut Random) {
         "65536",
         "100000",
         "100001",
+        "300000",
+        "300001",
+        "16777215",
+        "16777216",
         "18446744073709551615",
         "18446744073709551616",
         "99999999999999999999999999",
@@ -95,12 +101,15 @@ fn number(line: &mut Vec<u8>, random: &mut Random) {
 fn too_wide(line: &str, random: &mut Random) -> String {
     let mut words: Vec<String> = line.split(' ').map(String::from).collect();
     let count = words.len() - 1;
-    let place = match random.below(5) {
+    let place = match random.below(4) {
         0 => count,
+        1 => 2,
         _ => random.between(1, count - 2),
     };
     let number = if place == 1 || place == count {
         random.pick(&["256", "65536"])
+    } else if place == 2 {
+        random.pick(&["16777216", "16777217", "4294967296", "18446744073709551616"])
     } else {
         random.pick(&["65536", "65537", "4294967296", "18446744073709551616"])
     };
@@ -117,7 +126,7 @@ fn noise(random: &mut Random) -> Vec<u8> {
         return random.bytes(count);
     }
     let signs =
-        b"0123456789abcdef fresh set feed poke send none state board count loose active row -:,#";
+        b"0123456789abcdef fresh set feed poke send none state board count loose active row convert whole -:,#";
     (0..count).map(|_| random.pick(signs)).collect()
 }
 
@@ -126,15 +135,17 @@ fn long(random: &mut Random) -> Vec<u8> {
     let word = random.pick::<&[u8]>(&[
         b"check ",
         b"board ",
-        b"feed 5000 ",
+        b"feed 70000 ",
+        b"convert 70000 ",
+        b"whole ",
         b"poke 0 ",
         b"send 9 61 0 - 1 1 0 0 9 ",
         b"# ",
         b"",
     ]);
     let count = match random.below(4) {
-        0 => 3 * LONGEST,
-        _ => LONGEST - word.len() - 2 + random.below(5),
+        0 => 3 * LONGEST_LINE,
+        _ => LONGEST_LINE - word.len() - 2 + random.below(5),
     };
     let mut line = word.to_vec();
     line.extend(std::iter::repeat_n(b'0', count));

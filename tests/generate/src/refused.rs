@@ -1,12 +1,13 @@
 //! Frames that the receiver refuses, by the rule that they break first.
 
 use crate::client::{
-    command_of, frame, identity, Client, Phase, Step, BEGINS, COMMAND, CONTINUATION, DATA,
-    LONGEST_COMMAND, LONGEST_PAYLOAD, MORE, NEW, SETTINGS, WITH_DATA,
+    command_of, frame, identity, Client, Phase, Step, BEGINS, COMMAND, CONTINUATION, DATA, MORE,
+    NEW, SETTINGS, WITH_DATA,
 };
 use crate::commands;
 use crate::item;
 use crate::random::Random;
+use crate::sizes::{FRAME_HEAD, LONGEST_COMMAND, LONGEST_PAYLOAD, LONGEST_SENT, SLOTS};
 
 /// What may stand in place of the settings' byte string.
 const NOT_IDENTITY: [&[u8]; 17] = [
@@ -88,12 +89,11 @@ fn spoil(bytes: &mut [u8], number: u8, random: &mut Random) {
 /// At times nothing stands behind the eighth byte, on which it is judged.
 fn too_long(client: &mut Client, random: &mut Random) -> Vec<u8> {
     let (mut bytes, _) = client.next_frame(random, |_| true);
-    let length: u32 = random.pick(&[
-        4097, 4097, 4098, 8192, 0xffff, 0x1_0000, 0x10_0000, 0xff_ffff,
-    ]);
+    let over = LONGEST_PAYLOAD as u32 + 1;
+    let length = random.pick(&[over, over, over, over + 1, 2 * over, 0x10_0000, 0xff_ffff]);
     bytes[..3].copy_from_slice(&length.to_le_bytes()[..3]);
     if random.percent(40) {
-        bytes.truncate(8);
+        bytes.truncate(FRAME_HEAD);
     }
     bytes
 }
@@ -175,7 +175,12 @@ fn other_data_bit(client: &mut Client, random: &mut Random) -> Vec<u8> {
 /// One frame with too much, or a piece too many. But for its length the
 /// command is good.
 fn over_long(client: &mut Client, random: &mut Random) -> Vec<u8> {
-    let length = random.pick(&[LONGEST_COMMAND + 1, LONGEST_COMMAND + 2, LONGEST_PAYLOAD]);
+    let length = match random.below(20) {
+        0..=9 => LONGEST_COMMAND + 1,
+        10..=14 => LONGEST_COMMAND + 2,
+        15..=18 => LONGEST_SENT,
+        _ => LONGEST_PAYLOAD,
+    };
     let long = command_of(length, random);
     if random.percent(40) {
         let id = client.idle_id(random);
@@ -228,7 +233,7 @@ fn nine_levels(random: &mut Random) -> Vec<u8> {
 }
 
 fn free_slot(client: &mut Client, random: &mut Random) {
-    while client.requests.len() == 8 {
+    while client.requests.len() == SLOTS {
         client.act(random);
     }
 }

@@ -5,14 +5,15 @@ use crate::cuts::hex;
 use crate::faults;
 use crate::item::{self, put_head, Item, Writer, BYTES};
 use crate::random::Random;
+use crate::sizes::{LONGEST_COMMAND, LONGEST_PAYLOAD, LONGEST_SENT};
 
-/// The longest command that is sent.
-const LONGEST: usize = 2048;
 /// The bytes of a command besides its name, its pairs and their two heads: the
 /// map's own head, and the keys `name` and `args`.
 const AROUND: usize = 11;
-/// The largest output that a line asks for.
+/// The largest output that these lines ask for.
 const LARGEST_OUTPUT: usize = 100_000;
+/// The largest size, as the lines have it.
+const LARGEST_SIZE: u64 = LONGEST_SENT as u64;
 
 /// A line `send`, word by word.
 pub struct Sending {
@@ -108,7 +109,7 @@ pub fn sending(seed: u64, index: u64) -> Sending {
     if length {
         draft.lengthen(random);
     } else if random.percent(12) {
-        draft.fill(LONGEST - random.pick(&[0, 0, 0, 1, 1, 30]), random);
+        draft.fill(LONGEST_COMMAND - random.pick(&[0, 0, 0, 1, 1, 30]), random);
     }
     if command || length && random.percent(25) {
         draft.spoil(random);
@@ -118,7 +119,7 @@ pub fn sending(seed: u64, index: u64) -> Sending {
         sending.output = too_short(sending.total(), random);
     }
     if size {
-        sending.size = random.pick(&[0, 0, 4097, 4097, 4098, 65_536, 1 << 32, 1 << 63, u64::MAX]);
+        sending.size = other_size(random);
     }
     if ids {
         match random.below(3) {
@@ -175,7 +176,7 @@ impl Draft {
         if count > 6 {
             draft.wide = 0;
         }
-        while draft.length() > LONGEST - 40 {
+        while draft.length() > LONGEST_COMMAND - 40 {
             draft.entries.pop();
         }
         draft
@@ -228,8 +229,8 @@ impl Draft {
     fn lengthen(&mut self, random: &mut Random) {
         let length = match random.below(20) {
             0 | 1 => random.between(10_000, 100_000),
-            2..=4 => random.between(LONGEST + 2, 5000),
-            _ => LONGEST + 1,
+            2..=4 => random.between(LONGEST_COMMAND + 2, 5000),
+            _ => LONGEST_COMMAND + 1,
         };
         self.fill(length, random);
     }
@@ -358,8 +359,8 @@ fn size(length: usize, random: &mut Random) -> usize {
     let size = match random.below(12) {
         0 => 1,
         1 => random.between(2, 7),
-        2..=4 => 4096,
-        5 => random.pick(&[255, 256, 4095]),
+        2..=4 => LONGEST_SENT,
+        5 => random.pick(&[255, 256, LONGEST_SENT - 1]),
         6 | 7 => {
             let parts = random.between(1, 6);
             (parts..)
@@ -369,9 +370,22 @@ fn size(length: usize, random: &mut Random) -> usize {
         8 => length.saturating_sub(1),
         9 => length + 1,
         10 => random.between(8, 100),
-        _ => random.between(1, 4096),
+        _ => random.between(1, LONGEST_SENT),
     };
-    size.clamp(1, 4096)
+    size.clamp(1, LONGEST_SENT)
+}
+
+/// A size outside the range, often by one. At times the receiver would take it.
+fn other_size(random: &mut Random) -> u64 {
+    let over = LARGEST_SIZE + 1;
+    match random.below(10) {
+        0 | 1 => 0,
+        2 | 3 => over,
+        4 => over + 1,
+        5 => LONGEST_PAYLOAD as u64,
+        6 => 1 << 16,
+        _ => random.pick(&[1 << 32, 1 << 63, u64::MAX]),
+    }
 }
 
 /// Data of a few frames, at times of many.

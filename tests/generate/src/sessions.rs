@@ -2,9 +2,13 @@
 
 use crate::client::{frame, Client, Phase, Step};
 use crate::commands;
-use crate::cuts::{cut, cut_large, feed, hex, row, LEAST_OUTPUT};
+use crate::cuts::{cut, cut_large, feed, hex, row};
 use crate::random::Random;
 use crate::refused;
+use crate::sizes::{
+    LARGEST_AREA, LEAST_OUTPUT, LONGEST_COMMAND, LONGEST_LINE, LONGEST_PAYLOAD, LONGEST_SENT,
+    PARTS, SLOTS, WORK,
+};
 use crate::starts::{break_count, break_shape, heal, seated, Seated, WAYS};
 
 /// The session of this seed and index. It lends a work area before its first
@@ -14,13 +18,13 @@ pub fn session(seed: u64, index: u64) -> Vec<String> {
     let random = &mut Random::new(start);
     let mut lines = vec![format!("# session {index} of seed {seed}")];
     match random.below(100) {
-        0..=56 => fresh_talk(random, &mut lines),
-        57..=59 => wrong_count(random, &mut lines),
-        60..=81 => seated_talk(random, &mut lines),
-        82..=89 => out_of_shape(random, &mut lines),
-        90..=92 => short_area(random, &mut lines),
-        93 => long_talk(random, &mut lines),
-        94 => heavy_talk(random, &mut lines),
+        0..=55 => fresh_talk(random, &mut lines),
+        56..=58 => wrong_count(random, &mut lines),
+        59..=80 => seated_talk(random, &mut lines),
+        81..=88 => out_of_shape(random, &mut lines),
+        89..=91 => short_area(random, &mut lines),
+        92 => long_talk(random, &mut lines),
+        93 | 94 => heavy_talk(random, &mut lines),
         95..=97 => lookups(seed, index, random, &mut lines),
         98 => unreadable(random, &mut lines),
         _ => noise(random, &mut lines),
@@ -32,7 +36,7 @@ pub fn session(seed: u64, index: u64) -> Vec<String> {
 
 /// A work area that is long enough.
 fn lend(random: &mut Random, lines: &mut Vec<String>) {
-    let length = random.pick(&[20_488, 20_488, 20_488, 20_489, 21_000, 30_000]);
+    let length = random.pick(&[WORK, WORK, WORK, WORK + 1, WORK + 500, LARGEST_AREA]);
     let line = match random.below(3) {
         0 => format!("fresh {length}"),
         _ => format!("fresh {length} {}", random.below(256)),
@@ -56,8 +60,8 @@ fn poke_between(random: &mut Random, lines: &mut Vec<String>) {
     let place = match random.below(4) {
         0 => random.below(4),
         1 => random.below(40),
-        2 => 4104 + 2048 * random.below(8) + random.below(20),
-        _ => random.pick(&[4103, 20_487]),
+        2 => PARTS + LONGEST_COMMAND * random.below(SLOTS) + random.below(20),
+        _ => random.pick(&[PARTS - 1, WORK - 1]),
     };
     let bytes = [random.byte()];
     let line = random.between(2, lines.len());
@@ -183,7 +187,7 @@ fn wrong_count(random: &mut Random, lines: &mut Vec<String>) {
 /// A few calls that do not expect anything.
 fn calls(client: &Client, random: &mut Random, lines: &mut Vec<String>) {
     for _ in 0..random.between(1, 4) {
-        let output = random.pick(&[0, LEAST_OUTPUT - 1, LEAST_OUTPUT, 9000]);
+        let output = random.pick(&[0, LEAST_OUTPUT - 1, LEAST_OUTPUT, LEAST_OUTPUT + 4900]);
         let stream = client.address(random);
         let id = client.idle_id(random);
         let input = frame(id, stream, 0x11, b"\xa2\x44name\x43set\x44args\xa0");
@@ -203,7 +207,7 @@ fn calls(client: &Client, random: &mut Random, lines: &mut Vec<String>) {
 
 /// A work area that is too short, in states in shape and out of it.
 fn short_area(random: &mut Random, lines: &mut Vec<String>) {
-    let length = random.pick(&[0, 1, 7, 8, 4104, 20_487, 20_487]);
+    let length = random.pick(&[0, 1, 7, 8, PARTS, WORK - 1, WORK - 1]);
     lines.push(format!("fresh {length} {}", random.below(256)));
     let fresh = Client::default();
     calls(&fresh, random, lines);
@@ -231,7 +235,8 @@ fn long_talk(random: &mut Random, lines: &mut Vec<String>) {
     cut(client.steps, random, lines);
 }
 
-/// Data frames of the longest kind, of which several fill an output.
+/// Data frames of the longest kind, of which several fill an output; at the end one
+/// that claims too much, or the rest of a talk.
 fn heavy_talk(random: &mut Random, lines: &mut Vec<String>) {
     lend(random, lines);
     let mut client = Client::default();
@@ -241,14 +246,25 @@ fn heavy_talk(random: &mut Random, lines: &mut Vec<String>) {
             break place;
         }
     };
-    for _ in 0..random.between(2, 25) {
-        let count = random.pick(&[4096, 4096, 4096, 4095, 2000]);
-        client.send_data(place, count, false, random);
+    for _ in 0..random.between(2, 7) {
+        let any = random.between(LONGEST_SENT + 1, LONGEST_PAYLOAD);
+        let longest = LONGEST_PAYLOAD - random.pick(&[0, 0, 0, 1]);
+        let count = random.pick(&[longest, longest, any, any, any, LONGEST_SENT, 2000]);
+        let last = random.percent(5);
+        client.send_data(place, count, last, random);
+        if last {
+            break;
+        }
     }
-    if random.percent(50) {
-        refused::add(&mut client, random, 11);
+    match random.below(4) {
+        0 | 1 => refused::add(&mut client, random, 11),
+        2 => client.act(random),
+        _ => {}
     }
-    cut_large(client.steps, random, lines);
+    match random.below(2) {
+        0 => cut_large(client.steps, random, lines),
+        _ => cut(client.steps, random, lines),
+    }
 }
 
 /// The calls on lent command bytes.
@@ -268,18 +284,18 @@ fn lookups(seed: u64, index: u64, random: &mut Random, lines: &mut Vec<String>) 
     lend(random, lines);
 }
 
-const UNREADABLE: [&str; 39] = [
+const UNREADABLE: [&str; 44] = [
     "fresh",
     "fresh 100001",
-    "fresh 20488 256",
-    "fresh 20488 0 0",
-    "fresh  20488",
+    "fresh 90000 256",
+    "fresh 90000 0 0",
+    "fresh  90000",
     "fresh x",
     "feed 5000",
     "feed 5000 0",
     "feed 5000 0A",
     "feed 5000 0g",
-    "feed 100001 -",
+    "feed 300001 -",
     "feed 5000 00 ",
     " feed 5000 00",
     "feed",
@@ -295,7 +311,7 @@ const UNREADABLE: [&str; 39] = [
     "poke 0 1",
     "poke 100000 00",
     "work 9 8",
-    "work 0 100000",
+    "work 0 100001",
     "state 0",
     "State",
     "worksums",
@@ -303,9 +319,14 @@ const UNREADABLE: [&str; 39] = [
     "arg 00",
     "loose",
     "loose 0g",
+    "convert 9",
+    "convert 300001 -",
+    "convert 9 0",
+    "whole",
+    "whole 0g",
     "set 0 0 0:f:0:0 - 0",
     "set 256 0 0:f:0:0 0:f:0:0 0:f:0:0 0:f:0:0 0:f:0:0 0:f:0:0 0:f:0:0 0:f:0:0 - 0",
-    "set 0 65536 0:f:0:0 0:f:0:0 0:f:0:0 0:f:0:0 0:f:0:0 0:f:0:0 0:f:0:0 0:f:0:0 - 0",
+    "set 0 16777216 0:f:0:0 0:f:0:0 0:f:0:0 0:f:0:0 0:f:0:0 0:f:0:0 0:f:0:0 0:f:0:0 - 0",
     "set 0 0 1:c:0:65536 0:f:0:0 0:f:0:0 0:f:0:0 0:f:0:0 0:f:0:0 0:f:0:0 0:f:0:0 - 1",
     "set 0 0 0:f:0:0 0:f:0:0 0:f:0:0 0:f:0:0 0:f:0:0 0:f:0:0 0:f:0:0 0:f:0:0 - 256",
 ];
@@ -325,8 +346,8 @@ fn unreadable(random: &mut Random, lines: &mut Vec<String>) {
     }
     if random.percent(10) {
         // The longest line, and one that is too long.
-        lines.push(format!("check {}", "0".repeat(299_994)));
-        lines.push(format!("check {}", "0".repeat(299_996)));
+        lines.push(format!("check {}", "0".repeat(LONGEST_LINE - 6)));
+        lines.push(format!("check {}", "0".repeat(LONGEST_LINE - 4)));
     }
 }
 
@@ -341,6 +362,9 @@ fn noise(random: &mut Random, lines: &mut Vec<String>) {
                 .map(|_| random.pick(&[0, 0, 1, 1, 0x11, 0x92]))
                 .collect(),
         };
-        lines.push(feed(random.pick(&[LEAST_OUTPUT, 9000]), &input));
+        lines.push(feed(
+            random.pick(&[LEAST_OUTPUT, LEAST_OUTPUT + 4900]),
+            &input,
+        ));
     }
 }

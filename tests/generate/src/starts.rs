@@ -1,9 +1,10 @@
 //! Starts that are not fresh: states in shape, with a client that goes on
 //! from there, and states out of shape in a way that is asked for.
 
-use crate::client::{Client, Phase, Request, Step, LONGEST_COMMAND, LONGEST_PAYLOAD, STREAMS};
+use crate::client::{Client, Phase, Request, Step, STREAMS};
 use crate::cuts::hex;
 use crate::random::Random;
+use crate::sizes::{FRAME_HEAD, LONGEST_COMMAND, LONGEST_PAYLOAD, MOST_PENDING, PARTS, SLOTS};
 
 #[derive(Clone)]
 pub struct Slot {
@@ -24,14 +25,14 @@ const FREE: Slot = Slot {
 pub struct Start {
     pub dead: u8,
     pub pending: u64,
-    pub slots: [Slot; 8],
+    pub slots: [Slot; SLOTS],
     pub open: Vec<u8>,
     pub count: u8,
 }
 
 /// Where a slot's part of the work area starts.
 fn part(seat: usize) -> usize {
-    8 + LONGEST_PAYLOAD + seat * LONGEST_COMMAND
+    PARTS + seat * LONGEST_COMMAND
 }
 
 fn poke(place: usize, bytes: &[u8]) -> String {
@@ -43,7 +44,7 @@ impl Start {
         Start {
             dead: 0,
             pending: 0,
-            slots: [FREE; 8],
+            slots: [FREE; SLOTS],
             open: Vec::new(),
             count: 0,
         }
@@ -78,7 +79,7 @@ impl Start {
 
     /// A slot for a fault in it.
     fn any_slot(&mut self, random: &mut Random) -> &mut Slot {
-        &mut self.slots[random.below(8)]
+        &mut self.slots[random.below(SLOTS)]
     }
 
     /// An odd id that no slot has.
@@ -107,7 +108,7 @@ pub fn seated(random: &mut Random) -> Seated {
         pokes: Vec::new(),
     };
     let full = random.pick(&[0, 30, 60, 100]);
-    for seat in 0..8 {
+    for seat in 0..SLOTS {
         if random.percent(full) {
             seated.sit(seat, random);
         }
@@ -180,19 +181,23 @@ impl Seated {
     /// A header that claims too much has come in part, which is in shape.
     fn in_mid_header(&mut self, random: &mut Random) {
         let (mut bytes, _) = self.client.next_frame(random, |_| true);
-        bytes[1] = random.between(0x11, 0xff) as u8;
-        let pending = random.between(2, 7);
+        bytes[2] = random.pick(&[1, 1, 2, 0x10, 0xff]);
+        let pending = random.between(3, FRAME_HEAD - 1);
         self.split(bytes, pending, 0);
     }
 
-    /// Only the last byte of a longest frame is still to come.
+    /// Only the last byte of a longest frame is still to come, or a few bytes. Of
+    /// its payload, what has come is what stands in the work area.
     fn before_last_byte(&mut self, random: &mut Random) {
         if let Some(place) = self.client.some(random, Some(Phase::Waiting)) {
             let last = random.percent(50);
             self.client.send_data(place, LONGEST_PAYLOAD, last, random);
             if let Some(Step::Frame { bytes, record }) = self.client.steps.pop() {
-                let pending = bytes.len() - 1;
-                self.split(bytes, pending, record);
+                let pending = bytes.len() - random.pick(&[1, 1, 1, 2, 9]);
+                self.pokes.push(poke(0, &bytes[..FRAME_HEAD]));
+                self.start.pending = pending as u64;
+                let bytes = bytes[pending..].to_vec();
+                self.client.steps.push(Step::Frame { bytes, record });
             }
         }
     }
@@ -229,12 +234,13 @@ pub fn break_count(start: &mut Start, random: &mut Random) {
 }
 
 fn break_one(start: &mut Start, way: usize, random: &mut Random) -> Option<String> {
+    let (above, longest) = (MOST_PENDING as u64 + 1, LONGEST_COMMAND as u64);
     match way {
-        0 => start.pending = random.pick(&[4104, 4105, 40_000, 65_535]),
+        0 => start.pending = random.pick(&[above, above, above + 1, above + 2, 1 << 16, 0xff_ffff]),
         1 => start.dead = random.between(1, 10) as u8,
         2 => start.dead = random.between(30, 255) as u8,
         3 => {
-            let length = random.pick(&[2049, 2050, 40_000, 65_535]);
+            let length = random.pick(&[longest + 1, longest + 2, 40_000, 65_535]);
             let data = random.percent(50);
             used(start, 'c', data, length, random);
         }
@@ -246,11 +252,11 @@ fn break_one(start: &mut Start, way: usize, random: &mut Random) -> Option<Strin
         5 => double(start, random),
         6 => *start.any_slot(random) = free(random.pick(&[1, 2, 0xffff]), false, 0),
         7 => *start.any_slot(random) = free(0, true, 0),
-        8 => *start.any_slot(random) = free(0, false, random.pick(&[1, 2048])),
-        9 => used(start, 'w', true, random.pick(&[1, 2048]), random),
+        8 => *start.any_slot(random) = free(0, false, random.pick(&[1, longest])),
+        9 => used(start, 'w', true, random.pick(&[1, longest]), random),
         10 => {
             let data = random.percent(50);
-            used(start, 'r', data, random.pick(&[1, 2048]), random);
+            used(start, 'r', data, random.pick(&[1, longest]), random);
         }
         11 => used(start, 'w', false, 0, random),
         12 => return Some(held_above(start, random)),
@@ -287,8 +293,8 @@ fn used_in_shape(start: &mut Start, random: &mut Random) {
 /// Two used slots with one id.
 fn double(start: &mut Start, random: &mut Random) {
     let id = start.idle_id(random);
-    let first = random.below(8);
-    let second = (first + random.between(1, 7)) % 8;
+    let first = random.below(SLOTS);
+    let second = (first + random.between(1, SLOTS - 1)) % SLOTS;
     for seat in [first, second] {
         let (phase, data) = random.pick(&[('c', false), ('c', true), ('w', true), ('r', true)]);
         start.slots[seat] = Slot {
@@ -308,15 +314,17 @@ fn header(length: u32) -> String {
 }
 
 fn held_above(start: &mut Start, random: &mut Random) -> String {
-    start.pending = random.pick(&[8, 9, 100, 4102, 4103]);
-    header(random.pick(&[4097, 4098, 8192, 0x1_0000, 0xff_ffff]))
+    let most = MOST_PENDING as u64;
+    start.pending = random.pick(&[8, 9, 100, most - 1, most]);
+    let over = LONGEST_PAYLOAD as u32 + 1;
+    header(random.pick(&[over, over, over + 1, 2 * over, 0xff_ffff]))
 }
 
 fn pending_past(start: &mut Start, random: &mut Random) -> String {
-    let length = random.pick(&[0, 1, 100, 4095]);
-    let pending = 8 + length + random.pick(&[0, 1, 200]);
-    start.pending = pending.min(4103).into();
-    header(length)
+    let length = random.pick(&[0, 1, 100, LONGEST_PAYLOAD - 1]);
+    let pending = FRAME_HEAD + length + random.pick(&[0, 1, 200]);
+    start.pending = pending.min(MOST_PENDING) as u64;
+    header(length as u32)
 }
 
 /// The poke after which a state with a held length that broke the rule is

@@ -4,14 +4,16 @@ use crate::room::{Edge, Room};
 use crate::state;
 use crate::words::{bit, bytes, hex, number, parts};
 use hgrpc::{apply_bytes, first_board_bytes, label_bytes, switch_bytes};
+use hgrpc::{convert, whole};
 use hgrpc::{feed_bytes, finish_bytes, fresh_bytes, raw, row_bytes, send, Request};
 use hgrpc::{BOARD, COILS, ENTRY, LABEL_LONGEST, STATE, WORK};
 use second::bytes as state_bytes;
 
 /// A longer line is bad.
-pub const LINE: usize = 300_000;
-/// The most bytes of a work area or of an output.
-const LENT: usize = 100_000;
+pub const LINE: usize = 700_000;
+/// The most bytes of a work area, and of an output.
+const AREA: usize = 100_000;
+const OUTPUT: usize = 300_000;
 /// What an output holds before the call.
 const UNWRITTEN: u8 = 0xa5;
 /// The most entries of a row, and what it holds before the call.
@@ -29,12 +31,13 @@ pub struct Driver {
     name: Room,
     pairs: Room,
     data: Room,
+    log: Room,
     row: Room,
     board: Room,
     /// The length of the work area.
     size: usize,
-    /// Of the last feed or send: the length of its output, and how much it
-    /// wrote.
+    /// Of the last feed, send or convert: the length of its output, and how much
+    /// it wrote.
     asked: usize,
     written: usize,
 }
@@ -45,14 +48,15 @@ impl Driver {
     pub fn new(edge: Edge) -> Driver {
         let mut driver = Driver {
             state: Room::new(STATE, edge),
-            work: Room::new(LENT, edge),
+            work: Room::new(AREA, edge),
             input: Room::new(LINE / 2, edge),
-            output: Room::new(LENT, edge),
+            output: Room::new(OUTPUT, edge),
             command: Room::new(LINE / 2, edge),
             key: Room::new(LINE / 2, edge),
             name: Room::new(LINE / 2, edge),
             pairs: Room::new(LINE / 2, edge),
             data: Room::new(LINE / 2, edge),
+            log: Room::new(LINE / 2, edge),
             row: Room::new(ENTRIES * ENTRY, edge),
             board: Room::new(BOARD, edge),
             size: 0,
@@ -99,6 +103,8 @@ impl Driver {
             [b"active"] => Some(self.active()),
             [b"row", entries] => self.row(entries),
             [b"send", ref words @ ..] => self.send(words),
+            [b"convert", length, spelled] => self.convert(length, spelled),
+            [b"whole", spelled] => self.whole(spelled),
             [b"state"] => Some(self.state_words()),
             [b"tail"] => Some(self.tail()),
             [b"work", from, to] => self.work_part(from, to),
@@ -120,13 +126,15 @@ impl Driver {
         let number = fresh_bytes(self.state.lend(STATE));
         assert_eq!(number, 0, "a state of {STATE} bytes is made fresh");
         self.size = size;
-        for (place, byte) in self.work.lend(size).iter_mut().enumerate() {
-            *byte = (7 * place + first) as u8;
+        // The bytes come again after 256 of them.
+        let turn: [u8; 256] = std::array::from_fn(|place| (7 * place + first) as u8);
+        for part in self.work.lend(size).chunks_mut(turn.len()) {
+            part.copy_from_slice(&turn[..part.len()]);
         }
     }
 
     fn fresh(&mut self, size: &[u8], first: &[u8]) -> Option<String> {
-        let size = number(size, LENT as u64)? as usize;
+        let size = number(size, AREA as u64)? as usize;
         let first = number(first, 255)? as usize;
         self.begin(size, first);
         Some("fresh".to_string())
@@ -145,7 +153,7 @@ impl Driver {
     }
 
     fn poke(&mut self, place: &[u8], spelled: &[u8]) -> Option<String> {
-        let place = number(place, LENT as u64)? as usize;
+        let place = number(place, AREA as u64)? as usize;
         let poked = bytes(spelled)?;
         let work = self.work.lend(self.size);
         work.get_mut(place..place + poked.len())?
@@ -154,7 +162,7 @@ impl Driver {
     }
 
     fn feed(&mut self, length: &[u8], spelled: &[u8]) -> Option<String> {
-        let length = number(length, LENT as u64)? as usize;
+        let length = number(length, OUTPUT as u64)? as usize;
         let input = bytes(spelled)?;
         let output = self.output.lend(length);
         output.fill(UNWRITTEN);
@@ -200,7 +208,7 @@ impl Driver {
         let [length, name, count, pairs, id, stream, begin, end, size, data] = *words else {
             return None;
         };
-        let length = number(length, LENT as u64)? as usize;
+        let length = number(length, OUTPUT as u64)? as usize;
         let (name, pairs) = (bytes(name)?, bytes(pairs)?);
         let data = match data {
             b"none" => None,
@@ -232,6 +240,27 @@ impl Driver {
         Some(format!("sent {number} {written} {frames}"))
     }
 
+    fn convert(&mut self, length: &[u8], spelled: &[u8]) -> Option<String> {
+        let length = number(length, OUTPUT as u64)? as usize;
+        let log = bytes(spelled)?;
+        let output = self.output.lend(length);
+        output.fill(UNWRITTEN);
+        let converted = convert(self.log.put(&log), output);
+        assert!(self.log.lent(log.len()) == log, "a log is only read");
+        self.asked = length;
+        self.written = converted.written;
+        let (number, written) = (converted.number, converted.written);
+        let records = hex(&self.output.lent(length)[..written]);
+        Some(format!("converted {number} {written} {records}"))
+    }
+
+    fn whole(&mut self, spelled: &[u8]) -> Option<String> {
+        let log = bytes(spelled)?;
+        let count = whole(self.log.put(&log));
+        assert!(self.log.lent(log.len()) == log, "a log is only read");
+        Some(format!("whole {count}"))
+    }
+
     fn tail(&self) -> String {
         let tail = &self.output.lent(self.asked)[self.written..];
         let kept = tail.iter().all(|byte| *byte == UNWRITTEN);
@@ -239,8 +268,8 @@ impl Driver {
     }
 
     fn work_part(&self, from: &[u8], to: &[u8]) -> Option<String> {
-        let from = number(from, LENT as u64)? as usize;
-        let to = number(to, LENT as u64)? as usize;
+        let from = number(from, AREA as u64)? as usize;
+        let to = number(to, AREA as u64)? as usize;
         Some(format!("work {}", hex(self.work().get(from..to)?)))
     }
 

@@ -5,7 +5,7 @@
 use crate::state::{Phase, Slot, State, SLOTS};
 
 /// The bytes of the pending count and of a slot's length.
-const PENDING: usize = 2;
+const PENDING: usize = 3;
 const LENGTH: usize = 2;
 
 const SLOT: usize = 2 + 1 + 1 + LENGTH;
@@ -99,7 +99,7 @@ mod tests {
     fn odd() -> State {
         let mut state = State::fresh();
         state.dead = 200;
-        state.pending = 0x1234;
+        state.pending = 0x56_1234;
         state.slots[0] = Slot {
             id: 0x0203,
             phase: Phase::Running,
@@ -115,11 +115,11 @@ mod tests {
     #[test]
     fn layout() {
         let bytes = write(&odd());
-        assert_eq!((STREAMS_AT, COUNT_AT, STATE), (51, 179, 180));
+        assert_eq!((STREAMS_AT, COUNT_AT, STATE), (52, 180, 181));
         assert_eq!(bytes.len(), STATE);
-        assert_eq!(bytes[..9], [200, 0x34, 0x12, 3, 2, 3, 1, 6, 5]);
-        assert_eq!(bytes[9..45], [0; 36]);
-        assert_eq!(bytes[45..51], [0, 0, 2, 0, 0, 0]);
+        assert_eq!(bytes[..10], [200, 0x34, 0x12, 0x56, 3, 2, 3, 1, 6, 5]);
+        assert_eq!(bytes[10..46], [0; 36]);
+        assert_eq!(bytes[46..52], [0, 0, 2, 0, 0, 0]);
         let streams = [&[1][..], &[0; 126], &[1]].concat();
         assert_eq!(bytes[STREAMS_AT..COUNT_AT], streams);
         assert_eq!(bytes[COUNT_AT..], [0x89]);
@@ -141,10 +141,11 @@ mod tests {
         assert_eq!(read(&[&good[..], &[0]].concat()), None);
         assert_eq!(read(&[]), None);
         for (place, byte, is_state) in [
-            (5, 3, true),
-            (5, 4, false),
-            (6, 2, false),
-            (47, 255, false),
+            (3, 255, true),
+            (6, 3, true),
+            (6, 4, false),
+            (7, 2, false),
+            (48, 255, false),
             (STREAMS_AT, 2, false),
             (COUNT_AT - 1, 0, true),
             (COUNT_AT - 1, 2, false),

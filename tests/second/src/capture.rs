@@ -1,7 +1,8 @@
 //! What the program `receive` writes of a capture of the line. The bytes go
 //! to the receiver one at a time, and a command is written from its tree.
 
-use crate::frame::RECORD;
+use crate::frame::{BODY_HEAD, RECORD};
+use crate::log;
 use crate::receiver::Receiver;
 use crate::replay::to_hex;
 use crate::state::{State, WORK};
@@ -38,8 +39,8 @@ enum End {
 /// finished at once.
 fn walk(capture: &[u8], mut each: impl FnMut(&Record)) -> End {
     let mut receiver = Receiver::start(State::fresh(), vec![0; WORK]);
+    let mut output = vec![0; RECORD];
     for (place, byte) in capture.iter().enumerate() {
-        let mut output = [0; RECORD];
         let fed = receiver.feed(&[*byte], &mut output);
         if fed.number != 0 {
             let number = fed.number;
@@ -72,14 +73,15 @@ pub struct Record<'r> {
 impl<'r> Record<'r> {
     /// Of the bytes of one record.
     pub fn read(record: &'r [u8]) -> Record<'r> {
-        let number = |place: usize| u16::from_le_bytes([record[place], record[place + 1]]);
-        assert_eq!(usize::from(number(0)) + 4, record.len(), "one record");
+        let log = log::read(record, log::NEW);
+        assert_eq!((log.records.len(), log.broken.len()), (1, 0), "one record");
+        let (head, content) = log.records[0].body.split_at(BODY_HEAD);
         Record {
-            is_command: number(2) == 1,
-            request: number(4),
-            bit: record[6] % 2,
-            loose: record[6] / 2,
-            content: &record[7..],
+            is_command: log.records[0].kind == [1, 0],
+            request: u16::from_le_bytes([head[0], head[1]]),
+            bit: head[2] % 2,
+            loose: head[2] / 2,
+            content,
         }
     }
 

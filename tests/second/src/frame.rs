@@ -3,12 +3,14 @@
 use crate::value::{read_whole, Value};
 
 pub const HEADER: usize = 8;
-/// A header that claims more is refused with 11.
-pub const PAYLOAD: usize = 4096;
+/// A header that claims more is refused with 11 (E7).
+pub const PAYLOAD: usize = 65_535;
 /// The most a command may have in all, and what a slot's part holds.
 pub const COMMAND_BYTES: usize = 2048;
-/// The longest record: four bytes before the body, three before the content.
-pub const RECORD: usize = 4 + 3 + PAYLOAD;
+/// What stands before the content in a record's body: the request id and a byte.
+pub const BODY_HEAD: usize = 2 + 1;
+/// The longest record: its length in four bytes, its kind, and the longest body.
+pub const RECORD: usize = 4 + 2 + BODY_HEAD + PAYLOAD;
 
 pub const COMMAND: u8 = 1;
 pub const DATA: u8 = 2;

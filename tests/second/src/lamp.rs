@@ -41,7 +41,7 @@ pub fn fill(state: &State, row: &mut [u8]) -> u8 {
 #[cfg(test)]
 mod tests {
     use super::*;
-    use crate::state::{Phase, Slot};
+    use crate::state::{Phase, Slot, PENDING};
 
     /// Used and free slots in turn.
     fn busy() -> State {
@@ -91,7 +91,7 @@ mod tests {
             State { count: 2, ..busy() },
             State { count: 4, ..busy() },
             State {
-                pending: 4104,
+                pending: PENDING + 1,
                 ..busy()
             },
         ];

@@ -13,6 +13,7 @@ use crate::frame::{
     claimed, Frame, COMMAND, COMMAND_BYTES, CONTINUATION, DATA, HEADER, LAST_DATA, MORE, MORE_DATA,
     NEW, PAYLOAD, RECORD, SETTINGS, WITH_DATA,
 };
+use crate::log;
 use crate::state::{held_ways, plain_ways, Phase, Slot, State, FRAME_PLACES, SLOTS, WORK};
 use std::collections::{BTreeMap, BTreeSet};
 use std::mem::take;
@@ -310,14 +311,9 @@ const RULES: [(u8, Broken); 18] = [
 
 /// `third` is the body's third byte.
 fn record(kind: u16, request: u16, third: u8, content: &[u8]) -> Vec<u8> {
-    let body = (3 + content.len()) as u16;
-    let mut record = Vec::with_capacity(RECORD);
-    for number in [body, kind, request] {
-        record.extend(number.to_le_bytes());
-    }
-    record.push(third);
-    record.extend(content);
-    record
+    let body = [&request.to_le_bytes()[..], &[third], content].concat();
+    let kind = kind.to_le_bytes();
+    log::write(&[log::Record { kind, body: &body }])
 }
 
 /// The place in the work area where a slot's part starts.

@@ -4,15 +4,17 @@ use crate::board::Board;
 use crate::bytes::{MOST_LENGTH, MOST_PENDING};
 use crate::command;
 use crate::lamp::{self, ENTRY};
+use crate::log::{convert, whole, Converted};
 use crate::receiver::Receiver;
 use crate::sender::{send, Request};
 use crate::state::{Phase, Slot, State, SLOTS, WORK};
 use std::collections::BTreeSet;
 
 /// A longer line is bad.
-const LINE: usize = 300_000;
-/// The most bytes of a work area or of an output.
-const LENT: u64 = 100_000;
+const LINE: usize = 700_000;
+/// The most bytes of a work area, and of an output.
+const AREA: u64 = 100_000;
+const OUTPUT: u64 = 300_000;
 /// What an output holds before the call.
 const UNWRITTEN: u8 = 0xa5;
 /// The most entries of a row, and what each byte of them is before the call.
@@ -21,7 +23,7 @@ const UNFILLED: u8 = 0xff;
 
 pub struct Replay {
     receiver: Receiver,
-    /// The output of the last feed or send, and how much of it was written.
+    /// The output of the last feed, send or convert, and how much of it was written.
     output: Vec<u8>,
     written: usize,
     board: Board,
@@ -71,6 +73,8 @@ impl Replay {
             ["poke", place, bytes] => self.poke(place, bytes),
             ["feed", length, bytes] => self.feed(length, bytes),
             ["send", ref words @ ..] => self.send(words),
+            ["convert", length, log] => self.convert(length, log),
+            ["whole", log] => Some(format!("whole {}", whole(&from_hex(log)?))),
             ["finish", id] => self.finish(id),
             ["active"] => Some(self.active()),
             ["row", entries] => self.row(entries),
@@ -92,7 +96,7 @@ impl Replay {
     }
 
     fn fresh(&mut self, length: &str, first: &str) -> Option<String> {
-        let length = number(length, LENT)? as usize;
+        let length = number(length, AREA)? as usize;
         let first = number(first, 255)? as usize;
         self.receiver = Receiver::start(State::fresh(), area(length, first));
         Some("fresh".to_string())
@@ -104,7 +108,7 @@ impl Replay {
     }
 
     fn poke(&mut self, place: &str, bytes: &str) -> Option<String> {
-        let place = number(place, LENT)? as usize;
+        let place = number(place, AREA)? as usize;
         let bytes = from_hex(bytes)?;
         if place + bytes.len() > self.receiver.work().len() {
             return None;
@@ -114,10 +118,9 @@ impl Replay {
     }
 
     fn feed(&mut self, length: &str, bytes: &str) -> Option<String> {
-        let length = number(length, LENT)? as usize;
+        let length = number(length, OUTPUT)? as usize;
         let input = from_hex(bytes)?;
-        self.output.clear();
-        self.output.resize(length, UNWRITTEN);
+        self.lend(length);
         let fed = self.receiver.feed(&input, &mut self.output);
         self.written = fed.written;
         let records = to_hex(&self.output[..fed.written]);
@@ -125,11 +128,17 @@ impl Replay {
         Some(format!("fed {number} {taken} {written} {records}"))
     }
 
+    /// An output of so many bytes for the next call.
+    fn lend(&mut self, length: usize) {
+        self.output.clear();
+        self.output.resize(length, UNWRITTEN);
+    }
+
     fn send(&mut self, words: &[&str]) -> Option<String> {
         let [length, name, count, pairs, id, stream, begin, end, size, data] = *words else {
             return None;
         };
-        let length = number(length, LENT)? as usize;
+        let length = number(length, OUTPUT)? as usize;
         let (name, pairs) = (from_hex(name)?, from_hex(pairs)?);
         let data = match data {
             "none" => None,
@@ -146,13 +155,22 @@ impl Replay {
             size: number(size, u64::MAX)?,
             data: data.as_deref(),
         };
-        self.output.clear();
-        self.output.resize(length, UNWRITTEN);
+        self.lend(length);
         let sent = send(&request, &mut self.output);
         self.written = sent.written;
         let frames = to_hex(&self.output[..sent.written]);
         let (number, written) = (sent.number, sent.written);
         Some(format!("sent {number} {written} {frames}"))
+    }
+
+    fn convert(&mut self, length: &str, log: &str) -> Option<String> {
+        let length = number(length, OUTPUT)? as usize;
+        let log = from_hex(log)?;
+        self.lend(length);
+        let Converted { number, written } = convert(&log, &mut self.output);
+        self.written = written;
+        let bytes = to_hex(&self.output[..written]);
+        Some(format!("converted {number} {written} {bytes}"))
     }
 
     fn finish(&mut self, id: &str) -> Option<String> {
@@ -190,15 +208,19 @@ impl Replay {
     }
 
     fn work(&self, from: &str, to: &str) -> Option<String> {
-        let from = number(from, LENT)? as usize;
-        let to = number(to, LENT)? as usize;
+        let from = number(from, AREA)? as usize;
+        let to = number(to, AREA)? as usize;
         let bytes = self.receiver.work().get(from..to)?;
         Some(format!("work {}", to_hex(bytes)))
     }
 }
 
+/// The bytes come again after 256 of them.
 fn area(length: usize, first: usize) -> Vec<u8> {
-    (0..length).map(|place| (7 * place + first) as u8).collect()
+    let turn: Vec<u8> = (0..256).map(|place| (7 * place + first) as u8).collect();
+    let mut area = turn.repeat(length.div_ceil(turn.len()));
+    area.truncate(length);
+    area
 }
 
 fn check(bytes: &str) -> Option<String> {
@@ -374,7 +396,7 @@ pub fn state_text(state: &State) -> String {
 /// they stay far below 2^64.
 fn adler(bytes: &[u8]) -> u64 {
     let (mut low, mut high) = (1u64, 0u64);
-    for run in bytes.chunks(4096) {
+    for run in bytes.chunks(10_000) {
         for byte in run {
             low += u64::from(*byte);
             high += low;
@@ -388,6 +410,7 @@ fn adler(bytes: &[u8]) -> u64 {
 #[cfg(test)]
 mod tests {
     use super::*;
+    use crate::state::PENDING;
 
     #[test]
     fn adler_of_a_word() {
@@ -408,17 +431,18 @@ mod tests {
         let mut replay = Replay::default();
         let before = replay.answer(b"state");
         let lines = "x|state |state  | state|fresh|fresh 100001|fresh -|fresh 5 256|fresh 5 0 0|\
-            fresh +5|fresh 5 |feed 5|feed 5 0|feed 5 0A|feed 5 0g|feed -1 -|feed 100001 -|feed  5 -|\
+            fresh +5|fresh 5 |feed 5|feed 5 0|feed 5 0A|feed 5 0g|feed -1 -|feed 300001 -|feed  5 -|\
             finish 65536|finish|finish -|finish 1 |active 0|active |actives|row|row |row -|row -1|row +8|\
-            row 1001|row 8 8|row 0x8|row 18446744073709551616|rows 8|poke 20488 00|poke 20489 -|poke 0 0|work 2 1|\
-            work 0 20489|worksum 0|tail 0|check|check 0|name|arg -|int 00|set|set 0 0 -|\u{e9}|state\r|\
+            row 1001|row 8 8|row 0x8|row 18446744073709551616|rows 8|poke 81927 00|poke 81928 -|poke 0 0|work 2 1|\
+            work 0 81928|poke 100001 -|work 0 100001|worksum 0|tail 0|check|check 0|name|arg -|int 00|set|set 0 0 -|\u{e9}|state\r|\
             send|send 9 61 0 - 1 1 0 0 1|send 9 61 0 - 1 1 0 0 1 none 0|send 9 61 0 - 1 1 0 0 1 |\
             send 9 61 0 - 1 1 0 2 1 none|send 9 61 0 - 1 1 00 0 1 none|send 9 61 0 - 1 256 0 0 1 none|\
             send 9 61 0 - 65536 1 0 0 1 none|send 9 61 0 - 1 1 0 0 18446744073709551616 none|\
-            send 9 61 18446744073709551616 - 1 1 0 0 1 none|send 100001 61 0 - 1 1 0 0 1 none|\
+            send 9 61 18446744073709551616 - 1 1 0 0 1 none|send 300001 61 0 - 1 1 0 0 1 none|\
             send 9 6 0 - 1 1 0 0 1 none|send 9 61 0 0g 1 1 0 0 1 none|send 9 none 0 - 1 1 0 0 1 none|\
             send 9 61 0 none 1 1 0 0 1 none|send 9 61 0 - 1 1 0 0 1 None|send 9 61 -1 - 1 1 0 0 1 none|\
-            count|count 0|count 00 00|loose|loose 0|loose 0A|loose 00 00|board |board 0|board 0A|board Fresh|board fresh fresh|board 00 00|board  00|boards";
+            count|count 0|count 00 00|loose|loose 0|loose 0A|loose 00 00|board |board 0|board 0A|board Fresh|board fresh fresh|board 00 00|board  00|boards|\
+            convert|convert 9|convert 9 0|convert 9 0A|convert 300001 -|convert -1 -|convert 9 - -|convert  9 -|Convert 9 -|whole|whole 0|whole - -|wholes -";
         for line in lines.split('|') {
             let answer = replay.answer(line.as_bytes());
             assert_eq!(answer.as_deref(), Some("bad"), "{line}");
@@ -463,16 +487,16 @@ mod tests {
             (format!("loose {other}00"), "loose 0".to_string()),
             ("loose -".to_string(), "loose 0".to_string()),
             (
-                format!("feed 5000 1000000100010111{command}"),
-                format!("fed 0 24 23 13000100010000{command}"),
+                format!("feed 70000 1000000100010111{command}"),
+                format!("fed 0 24 25 130000000100010000{command}"),
             ),
             (
-                format!("feed 5000 1100000300010011{other}"),
-                format!("fed 0 25 24 14000100030002{other}"),
+                format!("feed 70000 1100000300010011{other}"),
+                format!("fed 0 25 26 140000000100030002{other}"),
             ),
             (
-                format!("feed 5000 1100000500010019{other}"),
-                format!("fed 0 25 24 14000100050003{other}"),
+                format!("feed 70000 1100000500010019{other}"),
+                format!("fed 0 25 26 140000000100050003{other}"),
             ),
         ] {
             assert_eq!(replay.answer(line.as_bytes()), Some(answer), "{line}");
@@ -504,7 +528,7 @@ mod tests {
             ("row 0".to_string(), "row 3".to_string()),
             ("row 8".to_string(), format!("row 3{}", kept.repeat(8))),
             ("finish 5".to_string(), "finished 3".to_string()),
-            ("feed 5000 -".to_string(), "fed 3 0 0 -".to_string()),
+            ("feed 70000 -".to_string(), "fed 3 0 0 -".to_string()),
         ] {
             assert_eq!(replay.answer(line.as_bytes()), Some(answer), "{line}");
         }
@@ -512,13 +536,39 @@ mod tests {
         assert_eq!(longest.split(' ').count(), 2 + 1000);
     }
 
+    /// A log of two records: exact, one byte short, longer, cut; and no log.
+    #[test]
+    fn logs() {
+        let mut replay = Replay::default();
+        let log = "020001006869000002ff";
+        let new = "02000000010068690000000002ff";
+        for (line, answer) in [
+            (format!("convert 14 {log}"), format!("converted 0 14 {new}")),
+            ("tail".to_string(), "tail kept".to_string()),
+            (format!("convert 13 {log}"), "converted 71 0 -".to_string()),
+            (
+                format!("convert 300000 {log}"),
+                format!("converted 0 14 {new}"),
+            ),
+            ("tail".to_string(), "tail kept".to_string()),
+            (format!("convert 0 {log}00"), "converted 70 0 -".to_string()),
+            ("convert 0 -".to_string(), "converted 0 0 -".to_string()),
+            (format!("whole {log}"), "whole 10".to_string()),
+            (format!("whole {log}000000"), "whole 10".to_string()),
+            ("whole 0200010068".to_string(), "whole 0".to_string()),
+            ("whole -".to_string(), "whole 0".to_string()),
+        ] {
+            assert_eq!(replay.answer(line.as_bytes()), Some(answer), "{line}");
+        }
+    }
+
     #[test]
     fn longest_line() {
         let mut replay = Replay::default();
         let line = |digits: usize| format!("check {}", "0".repeat(digits));
-        let answer = replay.answer(line(299_994).as_bytes());
+        let answer = replay.answer(line(699_994).as_bytes());
         assert_eq!(answer.as_deref(), Some("checked 24"));
-        let answer = replay.answer(line(299_996).as_bytes());
+        let answer = replay.answer(line(699_996).as_bytes());
         assert_eq!(answer.as_deref(), Some("bad"));
     }
 
@@ -531,8 +581,8 @@ mod tests {
         for state in [
             format!("0 0 {slots} - 5"),
             format!("0 0 {slots} - 4"),
-            format!("29 4103 {slots} 1,3,255 5"),
-            format!("255 65535 {odd} 129 255"),
+            format!("29 {PENDING} {slots} 1,3,255 5"),
+            format!("255 16777215 {odd} 129 255"),
         ] {
             let set = replay.answer(format!("set {state}").as_bytes());
             assert_eq!(set.as_deref(), Some("set"));
@@ -549,7 +599,7 @@ mod tests {
         let with = |from: &str, to: &str| format!("set 0 0 {} - 5", slots.replace(from, to));
         let bad = [
             format!("set 256 0 {slots} - 5"),
-            format!("set 0 65536 {slots} - 5"),
+            format!("set 0 16777216 {slots} - 5"),
             format!("set 0 18446744073709551616 {slots} - 5"),
             format!("set 0 0 {slots} 0:f:0:0 - 5"),
             format!("set 0 0 {slots} 2 5"),

@@ -5,8 +5,11 @@
 use crate::command;
 use crate::frame::{
     Frame, BEGINS, COMMAND, COMMAND_BYTES, CONTINUATION, DATA, ENDS, LAST_DATA, MORE, MORE_DATA,
-    NEW, PAYLOAD, WITH_DATA,
+    NEW, WITH_DATA,
 };
+
+/// The largest payload size. It is the sender's own: E7 lets the receiver take more.
+pub const SIZE: u64 = 4096;
 
 /// What is to be sent, and how.
 #[derive(Clone, Debug)]
@@ -36,7 +39,7 @@ type Refused = fn(&Request) -> bool;
 /// The refusals that do not ask for the output, in their order.
 const REFUSALS: [(u8, Refused); 4] = [
     (50, |request| request.id % 2 == 0 || request.stream % 2 == 0),
-    (51, |request| !(1..=PAYLOAD as u64).contains(&request.size)),
+    (51, |request| !(1..=SIZE).contains(&request.size)),
     (52, |request| command::check(&request.command()) != 0),
     (53, |request| request.command().len() > COMMAND_BYTES),
 ];
@@ -167,7 +170,7 @@ mod tests {
         stream: 1,
         begin: true,
         end: false,
-        size: 4096,
+        size: SIZE,
         data: None,
     };
 
@@ -270,7 +273,7 @@ mod tests {
         assert_eq!(
             written(
                 &Request {
-                    size: 4097,
+                    size: SIZE + 1,
                     ..size.clone()
                 },
                 0
@@ -303,7 +306,7 @@ mod tests {
             ]
             .concat()
         };
-        for (length, number) in [(2048, 54), (2049, 53)] {
+        for (length, number) in [(COMMAND_BYTES, 54), (COMMAND_BYTES + 1, 53)] {
             let pairs = pairs(length);
             let request = Request {
                 pairs: &pairs,
@@ -311,7 +314,7 @@ mod tests {
                 ..PLAIN
             };
             assert_eq!(request.command().len(), length);
-            assert_eq!(written(&request, 2055), Err(number));
+            assert_eq!(written(&request, COMMAND_BYTES + 7), Err(number));
         }
     }
 }

@@ -6,6 +6,8 @@ use std::collections::BTreeSet;
 pub const SLOTS: usize = 8;
 /// The places of the work area that the frame under way has.
 pub const FRAME_PLACES: usize = HEADER + PAYLOAD;
+/// The most that may be pending: a longest frame but for its last byte.
+pub const PENDING: u64 = FRAME_PLACES as u64 - 1;
 /// A shorter work area is refused with 2.
 pub const WORK: usize = FRAME_PLACES + SLOTS * COMMAND_BYTES;
 
@@ -104,7 +106,7 @@ impl Way {
 
     pub fn name(self) -> &'static str {
         match self {
-            Way::PendingAbove => "pending above 4,103",
+            Way::PendingAbove => "pending above 65,542",
             Way::LengthAbove => "slot length above 2,048",
             Way::UsedEven => "used id even",
             Way::UsedDouble => "used id double",
@@ -117,7 +119,7 @@ impl Way {
             Way::DeadBelow11 => "dead number 1 to 10",
             Way::DeadAbove29 => "dead number above 29",
             Way::CountWrong => "count wrong",
-            Way::HeldAbove => "held length above 4,096",
+            Way::HeldAbove => "held length above 65,535",
             Way::PendingPastHeld => "pending not below 8 plus the held length",
         }
     }
@@ -129,7 +131,7 @@ pub fn plain_ways(state: &State) -> Vec<Way> {
     let ids: BTreeSet<u16> = state.used().map(|slot| slot.id).collect();
     let used = state.used().count();
     let mut ways = broken(&[
-        (state.pending >= FRAME_PLACES as u64, Way::PendingAbove),
+        (state.pending > PENDING, Way::PendingAbove),
         ((1..=10).contains(&state.dead), Way::DeadBelow11),
         (state.dead > 29, Way::DeadAbove29),
         (ids.len() < used, Way::UsedDouble),
@@ -183,6 +185,15 @@ pub fn held_ways(state: &State, work: &[u8]) -> Vec<Way> {
 mod tests {
     use super::*;
 
+    const LONGEST: u64 = COMMAND_BYTES as u64;
+
+    /// E7's numbers.
+    #[test]
+    fn sizes() {
+        assert_eq!((PENDING, FRAME_PLACES, WORK), (65_542, 65_543, 81_927));
+        assert_eq!(crate::frame::RECORD, 65_544);
+    }
+
     fn with(id: u16, phase: Phase, data: bool, length: u64) -> State {
         let mut state = State::fresh();
         state.slots[2] = Slot {
@@ -209,9 +220,9 @@ mod tests {
             (with(9, Free, false, 0), &[Way::FreeWithId]),
             (with(0, Free, true, 0), &[Way::FreeWithData]),
             (with(0, Free, false, 1), &[Way::FreeWithLength]),
-            (with(65535, Collecting, true, 2048), &[]),
+            (with(65535, Collecting, true, LONGEST), &[]),
             (with(1, Collecting, false, 0), &[]),
-            (with(1, Collecting, false, 2049), &[Way::LengthAbove]),
+            (with(1, Collecting, false, LONGEST + 1), &[Way::LengthAbove]),
             (with(0, Collecting, false, 0), &[Way::UsedEven]),
             (with(256, Running, false, 0), &[Way::UsedEven]),
             (with(9, Collecting, false, 0), &[Way::UsedDouble]),
@@ -238,7 +249,7 @@ mod tests {
             let sound = dead == 0 || (11..=29).contains(&dead);
             assert_eq!(plain_ways(&state).is_empty(), sound, "{dead}");
         }
-        for (pending, sound) in [(4103, true), (4104, false), (u64::MAX, false)] {
+        for (pending, sound) in [(PENDING, true), (PENDING + 1, false), (u64::MAX, false)] {
             let state = State {
                 pending,
                 ..State::fresh()
@@ -275,16 +286,19 @@ mod tests {
 
     #[test]
     fn held_lengths() {
-        let table: [(u64, [u8; 3], &[Way]); 9] = [
+        let table: [(u64, [u8; 3], &[Way]); 12] = [
             (7, [0xff; 3], &[]),
             (7, [0; 3], &[]),
             (8, [0; 3], &[Way::PendingPastHeld]),
             (8, [1, 0, 0], &[]),
             (9, [1, 0, 0], &[Way::PendingPastHeld]),
-            (4103, [0, 0x10, 0], &[]),
-            (4103, [0xff, 0x0f, 0], &[Way::PendingPastHeld]),
-            (8, [1, 0x10, 0], &[Way::HeldAbove]),
+            (263, [0, 1, 0], &[]),
+            (264, [0, 1, 0], &[Way::PendingPastHeld]),
+            (8, [1, 0x10, 0], &[]),
+            (PENDING, [0xff, 0xff, 0], &[]),
+            (PENDING, [0xfe, 0xff, 0], &[Way::PendingPastHeld]),
             (8, [0, 0, 1], &[Way::HeldAbove]),
+            (8, [0xff; 3], &[Way::HeldAbove]),
         ];
         for (pending, length, ways) in table {
             let state = State {

@@ -1,4 +1,4 @@
--- `frame::put_record` meets its contract: the seven bytes before the command or the payload, then those.
+-- `frame::put_record` meets its contract: the nine bytes before the command or the payload, then those.
 -- Assumes nothing.
 use Prim.Native.Nat.{ℕ, suc, _+_, _/_, _%_}
 use mathlib.Core.Path.{_≡_, sym, _∙_}
@@ -12,16 +12,16 @@ use Rattle.frame.specs.Records.{recordOf, requestRecord}
 use Rattle.frame.proofs.put_record.Statement.{statement}
 use Rattle.frame.proofs.put_record.Tie as tie
 
-size : (kind request third : ℕ) (bytes : List ℕ) → length bytes + 3 + 4 ≡ length (requestRecord kind request third bytes)
+size : (kind request third : ℕ) (bytes : List ℕ) → length bytes + 3 + 6 ≡ length (requestRecord kind request third bytes)
 unfolding recordOf
 size kind request third bytes = omega arith
 
 -- the head as the code makes it
 abbrev headOf : ℕ → ℕ → ℕ → ℕ → List ℕ
-headOf kind request third body = body % 256 ∷ body / 256 % 256 ∷ kind % 256 ∷ kind / 256 % 256 ∷ request % 256 ∷ request / 256 % 256 ∷ third ∷ []
+headOf kind request third body = body % 256 ∷ body / 256 % 256 ∷ body / 65536 % 256 ∷ body / 16777216 % 256 ∷ kind % 256 ∷ kind / 256 % 256 ∷ request % 256 ∷ request / 256 % 256 ∷ third ∷ []
 
 in-two : (out : List ℕ) (at kind request third : ℕ) (bytes : List ℕ)
-    → write (write out at (headOf kind request third (length bytes + 3))) (at + 7) bytes ≡ write out at (requestRecord kind request third bytes)
+    → write (write out at (headOf kind request third (length bytes + 3))) (at + 9) bytes ≡ write out at (requestRecord kind request third bytes)
 unfolding recordOf
 in-two out at kind request third bytes =
     let n : length bytes + 3 ≡ suc (suc (suc (length bytes))) = omega arith in
@@ -44,6 +44,8 @@ put-record-spec =
     (λ c. search needs)
     (λ c. search needs)
     returns
+    (λ c. search needs)
+    (λ c. search needs)
     (λ c. search needs)
     (λ c. search needs)
     (λ c. search needs)

@@ -10,7 +10,7 @@ returns c =
     let n = c .before in
     let k = n .before .before in
     let b = k .before .before .before .args .b .now in
-    state-made b _ _ _ (n .number-at .ensures) (k .before .slots-of .ensures) (k .streams-of .ensures)
+    state-made b _ _ _ (n .pending-of .ensures) (k .before .slots-of .ensures) (k .streams-of .ensures)
 
 pub read-state-spec : {M : Type 1} → statement M
 read-state-spec =
@@ -20,6 +20,5 @@ read-state-spec =
     (λ c κs. search needs)
     (λ c. search needs)
     (λ c κs. search needs)
-    (λ c. search needs)
     (λ c. search needs)
     returns)

@@ -14,7 +14,7 @@ returns : tie.Need-returns
 unfolding part
 returns c =
     let s = c .before .before .args .bytes .now in
-    c .part .ensures ∙ take-all (length s - 7) (drop 7 s) (omega (arith, length-drop 7 s))
+    c .part .ensures ∙ take-all (length s - 9) (drop 9 s) (omega (arith, length-drop 9 s))
 
 pub content-spec : {M : Type 1} → statement M
 content-spec = tie.close (tie.spec (λ c κs. search needs) returns)

@@ -6,9 +6,10 @@ use mathlib.Core.Path.{_≡_, refl, ap, _∙_}
 use mathlib.Core.Bool.{false, cond, _&&_}
 use mathlib.Core.List.{List}
 use mathlib.Core.Logic.{⊎-elim}
-use Prim.Native.Nat.{ℕ}
+use Prim.Native.Nat.{ℕ, _*_}
 use native.Mathlib.Omega.{arith}
 use lib.Dec.{eqb, ltb, leb}
+use Rattle.frame.specs.Limits.{maxCommand}
 use Rattle.vectors.specs.declared.line.Part.{Part}
 use Rattle.vectors.specs.declared.line.Part.the-variants.{Digits, Note, Comment, NotHex, TooLong}
 use Rattle.vectors.specs.declared.line.State.{State}
@@ -52,7 +53,7 @@ module _ (c : lts.After-digit calls reads.Pre reads.Post) where
   no-comment : (eqb b 35 && eqb held 0) ≡ false
   no-comment = ⊎-elim (λ w. behind held b (w .0 .taken) (w .1 .left)) (λ w. rw (ne-eqb b 35 (w .left))) (c .before .if3 .came)
 
-  digit : partAfter held b ≡ cond (ltb 15 (c .digit .result)) NotHex (cond (leb 4096 held) TooLong Digits)
+  digit : partAfter held b ≡ cond (ltb 15 (c .digit .result)) NotHex (cond (leb (2 * maxCommand) held) TooLong Digits)
   unfolding partAfter
   digit = rw (ne-eqb b 32 (c .before .before .before .if1 .left), ne-eqb b 9 (c .before .before .if2 .left), no-comment, ← c .digit .ensures)
 
@@ -87,12 +88,12 @@ returns-5 : tie.Need-returns-5
 returns-5 c =
     let s = c .before .before .before .before .before .before .before in
     let a = s .args in
-    stays (a .state) (a .b) (a .item .now) (c .in-part5 .result) TooLong (rw (digit (c .before .before .before), le-ltb 15 _ (c .before .before .if5 .left), le-leb 4096 (a .state .held) (omega arith))) refl (c .in-part5 .ensures)
+    stays (a .state) (a .b) (a .item .now) (c .in-part5 .result) TooLong (rw (digit (c .before .before .before), le-ltb 15 _ (c .before .before .if5 .left), le-leb (2 * maxCommand) (a .state .held) (omega arith))) refl (c .in-part5 .ensures)
 
 returns-6 : tie.Need-returns-6
 returns-6 c =
     let d = c .before .before .before .before in
-    let e : partAfter (held d) (b d) ≡ Digits = rw (digit d, le-ltb 15 _ (c .before .before .before .if5 .left), lt-leb 4096 (held d) (omega arith)) in
+    let e : partAfter (held d) (b d) ≡ Digits = rw (digit d, le-ltb 15 _ (c .before .before .before .if5 .left), lt-leb (2 * maxCommand) (held d) (omega arith)) in
     record {
       next = rw e;
       kept = c .store .ensures .before-it;

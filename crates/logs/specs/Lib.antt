@@ -1,0 +1,4 @@
+pub mod Logs
+pub mod Convert
+pub mod Laws
+pub mod Steps
