@@ -66,6 +66,12 @@ pub struct Receiver<'a> {
     open: u128,
 }
 
+/// A work area that is not on the stack.
+pub fn area() -> Box<[u8; WORK]> {
+    let area = vec![0; WORK].into_boxed_slice();
+    area.try_into().expect("it has this length")
+}
+
 impl<'a> Receiver<'a> {
     pub fn new(work: &'a mut [u8; WORK]) -> Receiver<'a> {
         Receiver {

@@ -1,15 +1,15 @@
 //! The receivers that are measured, and the inputs for all of them.
 //!
-//!     feed make KIND SIZE                                     writes an input with SIZE payload bytes
-//!     feed archive|second|fast|copy|read PIECE OUTPUT KIND    feeds standard input in pieces, with an output of a length
-//!     feed compare SEED COUNT                                 holds `fast` to the second receiver
-//!     feed sizes                                              prints the lengths of the longest command and record
+//!     feed make KIND SIZE                                writes an input with SIZE payload bytes
+//!     feed archive|second|fast|copy|read PIECE OUTPUT    feeds standard input in pieces, with an output of a length
+//!     feed compare SEED COUNT                            holds `fast` to the second receiver
+//!     feed sizes                                         prints the lengths of the longest command and record
 //!
 //! `archive` is the channel of the archive hgrpc, as users link it. `second`
 //! is the plain receiver of the second implementation, which takes bytes
 //! singly. `fast` is a receiver by hand. `copy` is the least that any of them
-//! does: each byte is copied to a work area, and on to an output, in parts as
-//! long as the payloads of its kind. `read` only reads, which the others do too.
+//! does: each byte is copied to a work area, and on to an output, in parts of
+//! 4,096. `read` only reads, which the others do too.
 
 mod check;
 mod fast;
@@ -165,13 +165,17 @@ fn behind_length(records: &[u8]) -> &[u8] {
     records.get(4..).unwrap_or_default()
 }
 
-/// A piece longer than a payload goes through in parts of that length.
-fn copy(most: usize, payload: usize) -> Result<()> {
-    let mut work = vec![0; payload];
-    let mut out = vec![0; payload];
+/// A longer piece goes through in parts of this length: a copy of more at once is
+/// one repeated instruction, of which each turn is counted, so that its count says
+/// nothing.
+const PART: usize = hgrpc::SEND_SIZE_LONGEST;
+
+fn copy(most: usize) -> Result<()> {
+    let mut work = vec![0; PART];
+    let mut out = vec![0; PART];
     let mut total = 0;
     pieces(most, |piece| {
-        for part in piece.chunks(payload) {
+        for part in piece.chunks(PART) {
             let count = part.len();
             work[..count].copy_from_slice(part);
             let work = black_box(&work);
@@ -314,7 +318,7 @@ fn compare(seed: u64, count: u64) {
 
 /// The calls of a session that starts fresh, on both receivers.
 fn replay(lines: &[String]) -> std::result::Result<(), String> {
-    let mut work = [0; WORK];
+    let mut work = fast::area();
     let mut fast = fast::Receiver::new(&mut work);
     let mut second = Receiver::start(State::fresh(), vec![0; WORK]);
     for line in lines {
@@ -361,7 +365,7 @@ fn fail(reason: &str) -> ! {
 }
 
 fn usage() -> ! {
-    fail("make KIND SIZE, archive|second|fast|copy|read PIECE OUTPUT KIND, compare SEED COUNT or sizes")
+    fail("make KIND SIZE, archive|second|fast|copy|read PIECE OUTPUT, compare SEED COUNT or sizes")
 }
 
 fn main() -> Result<()> {
@@ -370,7 +374,7 @@ fn main() -> Result<()> {
     let number = |word: &str| word.parse().unwrap_or_else(|_| usage());
     match words[..] {
         ["make", kind, size] => make(kind, number(size)),
-        ["archive", most, output, _] => feed_all(
+        ["archive", most, output] => feed_all(
             &mut Channel {
                 state: hgrpc::State::fresh(),
                 work: &mut vec![0; WORK],
@@ -378,18 +382,18 @@ fn main() -> Result<()> {
             number(most),
             number(output),
         ),
-        ["second", most, output, _] => feed_all(
+        ["second", most, output] => feed_all(
             &mut Uncut::start(State::fresh(), vec![0; WORK]),
             number(most),
             number(output),
         ),
-        ["fast", most, output, _] => feed_all(
-            &mut fast::Receiver::new(&mut [0; WORK]),
+        ["fast", most, output] => feed_all(
+            &mut fast::Receiver::new(&mut fast::area()),
             number(most),
             number(output),
         ),
-        ["copy", most, _, kind] => copy(number(most), payload(kind).len()),
-        ["read", most, _, _] => read(number(most)),
+        ["copy", most, _] => copy(number(most)),
+        ["read", most, _] => read(number(most)),
         ["sizes"] => {
             println!("{} {RECORD}", hgrpc::COMMAND_LONGEST);
             Ok(())

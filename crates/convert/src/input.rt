@@ -8,7 +8,7 @@ ghost use mathlib.Core.Bool.{true, false};
 ghost use Prim.Native.Nat.{_≤_};
 ghost use lib.ListN.{length, take};
 ghost use Rattle.keys.specs.Keys.{part};
-ghost use Rattle.convert.specs.Turns.{Rewritten, Turned};
+ghost use Rattle.convert.specs.Turns.{longestOld, roomLength, Rewritten, Turned};
 
 // The longest record with a two-byte length has 65,539 bytes. So behind one that is not all there the room always has places for the next
 // piece.
@@ -57,8 +57,8 @@ pub(crate) fn convert_input(file: i32, name: &[u8]) {
 
 // Reads once, behind the bytes held, and converts what is whole.
 fn read_some(run: Run, file: i32, name: &[u8], room: &mut Room, out: &mut Output) -> Run
-    requires { ⌜ run .held ≤ 65539 ⌝ }
-    ensures { λ r. ⌜ r .held ≤ 65539 ⌝ }
+    requires { ⌜ run .held ≤ longestOld ⌝ }
+    ensures { λ r. ⌜ r .held ≤ longestOld ⌝ }
 {
     let held = run.held;
     let got = read_behind(file, room, held);
@@ -82,8 +82,8 @@ fn read_behind(file: i32, room: &mut [u8], at: usize) -> isize
 
 // The run at the end of the log, which may lie inside a record.
 fn at_end(run: Run) -> Run
-    requires { ⌜ run .held ≤ 65539 ⌝ }
-    ensures { λ r. ⌜ r .held ≤ 65539 ⌝ }
+    requires { ⌜ run .held ≤ longestOld ⌝ }
+    ensures { λ r. ⌜ r .held ≤ longestOld ⌝ }
 {
     if run.held != 0 {
         say::say_broken(run.place);
@@ -93,8 +93,8 @@ fn at_end(run: Run) -> Run
 
 // Nothing more is read.
 fn ended(run: Run) -> Run
-    requires { ⌜ run .held ≤ 65539 ⌝ }
-    ensures { λ r. ⌜ (r .held ≤ 65539) × (r .«is_going» ≡ false) ⌝ }
+    requires { ⌜ run .held ≤ longestOld ⌝ }
+    ensures { λ r. ⌜ (r .held ≤ longestOld) × (r .«is_going» ≡ false) ⌝ }
 {
     let mut next = run;
     next.is_going = false;
@@ -103,8 +103,8 @@ fn ended(run: Run) -> Run
 
 // Converts the whole records of the bytes held, writes them, and moves the rest to the front.
 fn convert_held(run: Run, held: usize, room: &mut Room, out: &mut Output) -> Run
-    requires { ⌜ run .held ≤ 65539 ⌝ }
-    ensures { λ r. ⌜ (r .held ≤ 65539) × (r .«is_going» ≡ true → Turned (part (now (room .entry)) 0 held) (run .place) r (now (room .exit))) ⌝ }
+    requires { ⌜ run .held ≤ longestOld ⌝ }
+    ensures { λ r. ⌜ (r .held ≤ longestOld) × (r .«is_going» ≡ true → Turned (part (now (room .entry)) 0 held) (run .place) r (now (room .exit))) ⌝ }
 {
     let front = convert_front(keys::part(&room[..], 0, held), out);
     if !io::write_all(STDOUT_FILENO, keys::part(&out[..], 0, front.written)) {
@@ -121,7 +121,7 @@ fn convert_held(run: Run, held: usize, room: &mut Room, out: &mut Output) -> Run
 
 // Puts the new form of the whole records in front of some bytes to the front of the output.
 fn convert_front(bytes: &[u8], out: &mut Output) -> Front
-    requires { ⌜ length (now bytes) ≤ 131072 ⌝ }
+    requires { ⌜ length (now bytes) ≤ roomLength ⌝ }
     ensures { λ r. ⌜ Rewritten (now (bytes .entry)) r (now (out .exit)) ⌝ }
 {
     let taken = logs::whole(bytes);

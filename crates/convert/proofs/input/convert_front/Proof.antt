@@ -16,14 +16,14 @@ use Rattle.logs.specs.Laws.{atOnce}
 use Rattle.logs.proofs.Alike.{done}
 use Rattle.logs.proofs.Pieces.{front-whole, front-wider, grows-by-half, held-short}
 use Rattle.convert.proofs.Parts.{part-front}
-use Rattle.convert.specs.Turns.{Rewritten}
+use Rattle.convert.specs.Turns.{roomLength, Rewritten}
 use Rattle.convert.specs.declared.input.Front.{Front}
 use Rattle.convert.proofs.input.convert_front.Statement.{statement}
 use Rattle.convert.proofs.input.convert_front.Tie as tie
 
 module _ (s : List ℕ) (n : ℕ) (e : n ≡ wholeLength 2 s) where
   -- the answer of the converter on the whole records
-  module _ (p out : List ℕ) (f : p ≡ part s 0 n) (h : 3 * 131072 ≤ 2 * length out) (l : length s ≤ 131072) where
+  module _ (p out : List ℕ) (f : p ≡ part s 0 n) (h : 3 * roomLength ≤ 2 * length out) (l : length s ≤ roomLength) where
     fits : length (wider s) ≤ length out
     fits = omega (arith, grows-by-half s)
 

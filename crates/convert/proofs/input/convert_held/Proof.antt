@@ -10,7 +10,7 @@ use lib.ListN.{length, take, drop}
 use Rattle.keys.specs.Keys.{part}
 use Rattle.logs.specs.Laws.{atOnce}
 use Rattle.logs.proofs.Pieces.{whole-within}
-use Rattle.convert.specs.Turns.{Rewritten, Turned}
+use Rattle.convert.specs.Turns.{longestOld, Rewritten, Turned}
 use Rattle.convert.specs.declared.input.Front.{Front}
 use Rattle.convert.specs.declared.input.Run.{Run}
 use Rattle.convert.proofs.Parts.{part-short, part-rest}
@@ -32,7 +32,7 @@ module _ (s room room′ out : List ℕ) (held place : ℕ) (e : s ≡ part room
   unfolding atOnce
   turned = rw (← e) (record { held = t ∙ rest ∙ rw (d .taken); behind = p ∙ rw (d .taken) })
 
-  short : r .held ≤ 65539
+  short : r .held ≤ longestOld
   short = omega (arith, ap length rest, d .left)
 
 returns : tie.Need-returns

@@ -2,11 +2,12 @@
 -- that are left. Assumes nothing.
 use borrow.Author.Needs.{needs}
 use Prim.Native.Nat.{_≤_}
+use Rattle.convert.specs.Turns.{longestOld}
 use Rattle.convert.proofs.input.convert_input.Statement.{statement}
 use Rattle.convert.proofs.input.convert_input.Tie as tie
 
 abbrev Inv-loop : tie.InvT-loop
-Inv-loop file name room₀ out₀ run₀ turns₀ room out run turns = run .held ≤ 65539
+Inv-loop file name room₀ out₀ run₀ turns₀ room out run turns = run .held ≤ longestOld
 
 abbrev μ-loop : tie.MeasureT-loop
 μ-loop file name room₀ out₀ run₀ turns₀ room out run turns = turns
