@@ -6,6 +6,7 @@ use crate::names::{DISTANCES, FEW, FEW_DISTANCES, FEW_SIZES, MET, SIZES};
 use crate::near;
 use crate::view::{doubles, in_order, span, view, Key, View};
 use second::command::check;
+use second::frame::COMMAND_BYTES;
 use second::value::{is_loose, read_whole, Value};
 use std::cmp::Ordering;
 use std::collections::BTreeSet;
@@ -107,7 +108,7 @@ impl Coverage {
         if let Some(size) = name_of(&SIZES, keys.len()) {
             self.counts.add(&size_name(size, number));
         }
-        let full = (2_000..=2_048).contains(&command.len()) && keys.len() > 500;
+        let full = (2_000..=COMMAND_BYTES).contains(&command.len()) && keys.len() > 500;
         let name = "more than 500 keys in 2,000 to 2,048 bytes, ";
         self.add_if(full, &format!("{name}{number}"));
         let past = span(keys).len() > LAST_PLACE;
