@@ -7,7 +7,7 @@ use native.Mathlib.Omega.{arith}
 use lib.ListN.{length}
 use Rattle.frame.specs.Frame.{Frame}
 use Rattle.frame.specs.Limits.{maxPayload}
-use Rattle.frame.specs.Records.{recordOf, requestRecord, two}
+use Rattle.frame.specs.Records.{requestRecord, two}
 use Rattle.records.proofs.ReadBack.{joined}
 use Rattle.logs.specs.Logs.{Stored, recordsFrom, records}
 use Rattle.logs.proofs.Joined.{feed-writes, records-join}
