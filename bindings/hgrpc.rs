@@ -202,10 +202,12 @@ pub enum Phase {
     Free,
     /// Its command isn't whole.
     Collecting,
-    /// Its command is whole, its data not.
+    /// Its command is whole, its data not; finish lets it drain.
     Waiting,
     /// All has come; finish frees the slot.
     Running,
+    /// Finished before its data has all come; the last of it frees the slot.
+    Draining,
 }
 
 /// An entry of a row: what is in a slot. A free slot's id is 0.
@@ -224,7 +226,8 @@ impl Entry {
                 0 => Phase::Free,
                 1 => Phase::Collecting,
                 2 => Phase::Waiting,
-                _ => Phase::Running,
+                3 => Phase::Running,
+                _ => Phase::Draining,
             },
         }
     }
@@ -268,8 +271,9 @@ pub fn feed_bytes(state: &mut [u8], work: &mut [u8], input: &[u8], out: &mut [u8
     }
 }
 
-/// 0: the request ran, and its slot is free. 3, the dead number or 4, tried in
-/// this order: nothing changed.
+/// 0: the request ran, and its slot is free; or it waited for data, and drains:
+/// its data is taken by the same rules and gives no record, and the last of it
+/// frees the slot. 3, the dead number or 4, tried in this order: nothing changed.
 pub fn finish_bytes(state: &mut [u8], id: u16) -> u32 {
     // The pointer comes with its own length.
     unsafe { raw::hgrpc_finish(state.as_mut_ptr(), state.len(), id) }
@@ -597,7 +601,7 @@ pub struct Record<'o> {
 }
 
 impl Record<'_> {
-    /// Whether the request runs now, so that finish answers 0: a command that
+    /// Whether the request runs now, so that a finish frees its slot: a command that
     /// no data follows, however it is written, or the last data.
     pub fn runs(&self) -> bool {
         (self.kind == Kind::Command) != self.bit

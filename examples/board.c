@@ -69,8 +69,9 @@ static void print_changes(const hgrpc_board *before)
 }
 
 /* The board does a command as soon as its record comes, also where data follows:
- * none of its commands has a use for data. A refused one leaves every coil. */
-static void act(const hgrpc_record *record)
+ * none of its commands has a use for data. A refused one leaves every coil, and
+ * its number is answered. */
+static uint32_t act(const hgrpc_record *record)
 {
     hgrpc_board before = coils;
     uint32_t number;
@@ -78,7 +79,7 @@ static void act(const hgrpc_record *record)
     if (record->kind == HGRPC_KIND_DATA) {
         printf("data %u: %zu bytes%s\n", record->request, record->length,
                record->bit ? ", the last" : "");
-        return;
+        return 0;
     }
     /* Feed has checked the command, so its name is there. */
     hgrpc_name(record->bytes, record->length, &at, &size);
@@ -87,19 +88,23 @@ static void act(const hgrpc_record *record)
     printf("%s\n", record->bit ? ", data follows" : "");
     number = hgrpc_coils_apply(&coils, record->bytes, record->length);
     if (number != 0)
-        printf("  refused %u: %s\n", number, meaning(number));
+        printf("  refused %u: %s%s\n", number, meaning(number),
+               record->bit ? "; its data is drained" : "");
     print_changes(&before);
+    return number;
 }
 
 /* The records at the front of the output. A request that runs is finished when
- * the board has acted on it, so that its slot is free for another. */
+ * the board has acted on it, so that its slot is free for another. One that the
+ * board refuses is finished early: the laptop need not be heard to its end. What
+ * it still sends is then taken off the line without a record, and the last of it
+ * frees the slot. */
 static void take_records(size_t written)
 {
     hgrpc_record record;
     size_t place = 0;
     while (hgrpc_next_record(out, written, &place, &record)) {
-        act(&record);
-        if (hgrpc_record_runs(&record))
+        if (act(&record) != 0 || hgrpc_record_runs(&record))
             hgrpc_channel_finish(&state, record.request);
     }
 }
@@ -123,7 +128,7 @@ static uint32_t take_piece(const uint8_t *piece, size_t length)
  * turn of its loop. The channel may be dead: it is asked all the same. */
 static void print_active(void)
 {
-    static const char *const phases[] = {"free", "collecting", "waiting", "running"};
+    static const char *const phases[] = {"free", "collecting", "waiting", "running", "draining"};
     hgrpc_entry row[HGRPC_REQUESTS];
     size_t slot, count;
     if (hgrpc_channel_active(&state, &count) != 0 || count == 0 || hgrpc_channel_row(&state, row) != 0)

@@ -22,7 +22,7 @@
  *       the rule above; dead number neither 0 nor 11 to 29; a wrong count; or,
  *       8 or more pending, a held length above 65,535 or pending not below 8
  *       plus it. Also: bytes that are no state at all, or no board
- *    4  finish: id not running
+ *    4  finish: id neither waiting nor running
  *    5  stopped for output, as above
  *    6  lookup: key absent
  *    7  integer wanted, another type found
@@ -44,7 +44,7 @@
  *   24  whole command isn't one CBOR item of the subset
  *   25  it isn't a command map
  *   26  a key twice in the outer map or in `args`
- *   27  data: id not waiting
+ *   27  data: id neither waiting nor draining
  *   28  settings without beginning
  *   29  settings not identity
  *   40  unknown command
@@ -93,8 +93,9 @@ extern "C" {
 /* The phases of a slot, as an entry of a row has them. */
 #define HGRPC_PHASE_FREE 0       /* no request is in the slot */
 #define HGRPC_PHASE_COLLECTING 1 /* its command isn't whole */
-#define HGRPC_PHASE_WAITING 2    /* its command is whole, its data not */
+#define HGRPC_PHASE_WAITING 2    /* its command is whole, its data not; finish lets it drain */
 #define HGRPC_PHASE_RUNNING 3    /* all has come; finish frees the slot */
+#define HGRPC_PHASE_DRAINING 4   /* finished before its data has all come; the last of it frees the slot */
 
 /* The kinds of records. Beside its bit a command has `loose`, which says how it is
  * written. */
@@ -122,13 +123,16 @@ uint32_t hgrpc_feed(uint8_t *state, size_t state_length,
                     uint8_t *out, size_t out_length,
                     size_t *taken, size_t *written);
 
-/* The owner has done what request `id` asked. 0: its slot is free again.
+/* The owner has done what request `id` asked, or will not do it. 0: if all of
+ * the request has come, its slot is free again. If its data has not all come, it
+ * drains: what comes of it is taken by the same rules and gives no record, and
+ * the last data frame frees the slot; till then the id is active.
  * 3, the dead number or 4, tried in this order: nothing changed. */
 uint32_t hgrpc_finish(uint8_t *state, size_t state_length, uint16_t id);
 
 /* How many requests are active, for a status lamp: 0, and `count` is the new
- * frames accepted since the state was fresh less the finishes accepted,
- * HGRPC_REQUESTS at most. It is right after every call on the channel, refused
+ * frames accepted since the state was fresh less the finishes of running ids
+ * and the drains ended, HGRPC_REQUESTS at most. It is right after every call on the channel, refused
  * ones too, and is told of a dead channel like of a live one. 3: the bytes are no
  * state, or one that finish would refuse with 3; `count` is 0. */
 uint32_t hgrpc_active(const uint8_t *state, size_t state_length, size_t *count);
@@ -339,8 +343,8 @@ static inline hgrpc_fed hgrpc_channel_feed(hgrpc_state *state,
     return fed;
 }
 
-/* The answers of hgrpc_finish: 0 and the slot is free, or 3, the dead number or
- * 4 and nothing changed. */
+/* The answers of hgrpc_finish: 0 and the slot is free or drains, or 3, the dead
+ * number or 4 and nothing changed. */
 static inline uint32_t hgrpc_channel_finish(hgrpc_state *state, uint16_t id)
 {
     return hgrpc_finish(state->bytes, sizeof state->bytes, id);
@@ -452,8 +456,8 @@ static inline int hgrpc_next_record(const uint8_t *out, size_t written, size_t *
     return 1;
 }
 
-/* Whether the record's request runs now, so that finish answers 0: a command
- * that no data follows, however it is written, or the last data. */
+/* Whether the record's request runs now, so that a finish frees its slot: a
+ * command that no data follows, however it is written, or the last data. */
 static inline int hgrpc_record_runs(const hgrpc_record *record)
 {
     return (record->kind == HGRPC_KIND_COMMAND) == (record->bit == 0);

@@ -43,6 +43,10 @@ cp tests/whole_way/*.rs "$out/wrong/way/whole_way"
 change 's/width != widths\[0\]/width > 1/' tests/whole_way/wish.rs "$out/wrong/way/whole_way/wish.rs"
 archive_program "$out/wrong/way/whole_way.rs" "$out/wrong/way/run" "$out"
 must_fail 'another mark came' "$out/wrong/way/run" run 1 20
+cp tests/whole_way/wish.rs "$out/wrong/way/whole_way"
+change 's/return self\.finish(record\.request);/return Ok(());/' tests/whole_way.rs "$out/wrong/way/whole_way.rs"
+archive_program "$out/wrong/way/whole_way.rs" "$out/wrong/way/run" "$out"
+must_fail 'a record of a request that drains came' "$out/wrong/way/run" run 1 20
 
 if [ "$long" -eq 1 ]; then
     answered=0

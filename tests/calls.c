@@ -25,6 +25,9 @@ typedef struct {
 
 static board b;
 
+/* What the latest feed answered. */
+static hgrpc_fed latest;
+
 static void is(int line, long long got, long long wanted)
 {
     answers++;
@@ -36,7 +39,8 @@ static void is(int line, long long got, long long wanted)
 
 static hgrpc_fed feed(const uint8_t *input, size_t length)
 {
-    return hgrpc_channel_feed(&b.state, b.work, sizeof b.work, input, length, b.out, HGRPC_OUTPUT);
+    latest = hgrpc_channel_feed(&b.state, b.work, sizeof b.work, input, length, b.out, HGRPC_OUTPUT);
+    return latest;
 }
 
 /* Feeds bytes that are all taken, and answers the number. */
@@ -217,7 +221,7 @@ static void shown(void)
     IS(frame(0x0201, 1, 0, 0x12, BYTES(NAME "\x44" "args\xa0")), 0);
     IS(frame(0xffff, 1, 0, 0x19, BYTES(COMMAND)), 0);
     SHOWN(2, two);
-    IS(hgrpc_channel_finish(&b.state, 0xffff), 4);
+    IS(hgrpc_channel_finish(&b.state, 0xfffd), 4);
     SHOWN(2, two);
     IS(hgrpc_channel_finish(&b.state, 0x0201), 0);
     SHOWN(1, finished);
@@ -226,6 +230,69 @@ static void shown(void)
     SHOWN(2, again);
     IS(frame(5, 1, 0, 0x11, BYTES(COMMAND)), 19);
     SHOWN(2, again);
+}
+
+/* Request 1 is finished between two of its data frames. What comes of it then gives no
+ * record, and the last of it frees the slot, which the next request takes. */
+static void drained(void)
+{
+    static const unsigned drains[][2] = {{1, HGRPC_PHASE_DRAINING}, {3, HGRPC_PHASE_COLLECTING}};
+    static const unsigned freed[][2] = {{0, HGRPC_PHASE_FREE}, {3, HGRPC_PHASE_COLLECTING}};
+    static const unsigned again[][2] = {{1, HGRPC_PHASE_RUNNING}, {3, HGRPC_PHASE_COLLECTING}};
+    busy();
+    IS(frame(1, 1, 0, 0x21, BYTES("slow")), 0);
+    IS(latest.written, HGRPC_RECORD_HEAD + 4);
+    IS(hgrpc_channel_finish(&b.state, 1), 0);
+    SHOWN(2, drains);
+    IS(hgrpc_channel_finish(&b.state, 1), 4);
+    IS(frame(1, 1, 0, 0x21, BYTES("er and")), 0);
+    IS(latest.written, 0);
+    SHOWN(2, drains);
+    IS(frame(1, 1, 0, 0x22, BYTES("")), 0);
+    IS(latest.written, 0);
+    SHOWN(1, freed);
+    IS(hgrpc_channel_finish(&b.state, 1), 4);
+    IS(frame(1, 1, 0, 0x11, BYTES(COMMAND)), 0);
+    IS(latest.written, sizeof RECORD - 1);
+    SHOWN(2, again);
+    IS(hgrpc_channel_finish(&b.state, 1), 0);
+    SHOWN(1, freed);
+}
+
+/* A drained frame in two pieces with the finish between them, behind a command whose
+ * record takes the room for a longest one: 5 before its last byte. */
+static void drained_in_pieces(void)
+{
+    static const char input[] = "\x10\0\0\5\0\1\0\x11" COMMAND "\2\0\0\1\0\1\0\x22hi";
+    const uint8_t *bytes = (const uint8_t *)input;
+    size_t count = 99;
+    busy();
+    IS(feed(bytes, sizeof input - 1).number, 5);
+    IS(latest.taken, sizeof input - 2);
+    IS(latest.written, sizeof RECORD - 1);
+    IS(hgrpc_channel_finish(&b.state, 1), 0);
+    IS(feed(bytes + sizeof input - 2, 1).number, 0);
+    IS(latest.written, 0);
+    IS(hgrpc_channel_active(&b.state, &count), 0);
+    IS(count, 2);
+    IS(hgrpc_channel_finish(&b.state, 1), 4);
+}
+
+/* A request that drains is active, and one that has drained is not. */
+static void refused_drains(void)
+{
+    static const uint8_t none[1] = {0};
+    busy();
+    IS(hgrpc_channel_finish(&b.state, 1), 0);
+    refused_with(19, frame(1, 1, 0, 0x11, BYTES(COMMAND)));
+    IS(hgrpc_channel_finish(&b.state, 1), 0);
+    refused_with(21, frame(1, 1, 0, 0x1a, BYTES(COMMAND)));
+    IS(hgrpc_channel_finish(&b.state, 1), 0);
+    IS(frame(1, 1, 2, 0x21, none, 0), 0);
+    refused_with(16, frame(1, 1, 0, 0x22, none, 0));
+    IS(hgrpc_channel_finish(&b.state, 1), 0);
+    IS(frame(1, 1, 0, 0x22, none, 0), 0);
+    IS(frame(1, 1, 0, 0x22, none, 0), 27);
 }
 
 /* Rows of every length, of a live channel and of a dead one: 9 and nothing changed, or
@@ -293,7 +360,7 @@ static void accepted(void)
     busy();
     IS(frame(5, 3, 3, 0x92, BYTES("\x48" "identity")), 0);
     IS(frame(1, 1, 0, 0x21, BYTES("slow")), 0);
-    IS(hgrpc_channel_finish(&b.state, 1), 4);
+    IS(hgrpc_channel_finish(&b.state, 5), 4);
     IS(frame(1, 1, 0, 0x22, BYTES("er")), 0);
     IS(hgrpc_next_record(b.out, HGRPC_RECORD_HEAD + 2, &place, &record), 1);
     IS(record.kind, HGRPC_KIND_DATA);
@@ -437,7 +504,9 @@ static void marked_records(void)
         IS(record.length, length);
         IS(memcmp(record.bytes, command, length), 0);
         IS(hgrpc_record_runs(&record), !data);
-        IS(hgrpc_channel_finish(&b.state, 1), data ? 4 : 0);
+        IS(hgrpc_channel_finish(&b.state, 1), 0);
+        IS(hgrpc_channel_active(&b.state, &place), 0);
+        IS(place, data);
     }
 }
 
@@ -772,6 +841,9 @@ int main(void)
     accepted();
     longest_frame();
     shown();
+    drained();
+    drained_in_pieces();
+    refused_drains();
     row_lengths();
     not_shown();
     cut_records();

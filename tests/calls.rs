@@ -121,6 +121,37 @@ fn lamp() {
     shows(&state, 1, &[(0, Free), (0xff03, Waiting)]);
 }
 
+/// A request is finished before its data has come, and another with its data frame under
+/// way: no record comes of either, and the last data frame frees the slot.
+fn drains() {
+    use Phase::{Draining, Free, Running};
+    let mut work = vec![0; WORK];
+    let mut out = vec![0; OUTPUT];
+    let mut state = State::fresh();
+    let mut feed = |state: &mut State, bytes: &[u8]| state.feed(&mut work, bytes, &mut out);
+    for (id, begin) in [(1, 1), (3, 0)] {
+        let answer = feed(&mut state, &frame(id, begin, 0x19, COMMAND));
+        assert_eq!(answer, fed(0, 24, 25));
+    }
+    assert_eq!((state.finish(1), state.finish(1)), (0, 4));
+    let data = frame(3, 0, 0x22, b"hi");
+    assert_eq!(feed(&mut state, &data[..9]), fed(0, 9, 0));
+    assert_eq!((state.finish(3), state.finish(3)), (0, 4));
+    shows(&state, 2, &[(1, Draining), (3, Draining)]);
+    assert_eq!(feed(&mut state, &data[9..]), fed(0, 1, 0));
+    shows(&state, 1, &[(1, Draining)]);
+    let more = frame(1, 0, 0x21, b"more");
+    assert_eq!(feed(&mut state, &more), fed(0, more.len(), 0));
+    shows(&state, 1, &[(1, Draining)]);
+    let command = frame(3, 0, 0x11, COMMAND);
+    assert_eq!(feed(&mut state, &command), fed(0, 24, 25));
+    shows(&state, 2, &[(1, Draining), (3, Running)]);
+    assert_eq!(feed(&mut state, &frame(1, 0, 0x22, b"")), fed(0, 8, 0));
+    shows(&state, 1, &[(0, Free), (3, Running)]);
+    assert_eq!(feed(&mut state, &frame(1, 0, 0x22, b"")), fed(27, 8, 0));
+    shows(&state, 1, &[(0, Free), (3, Running)]);
+}
+
 /// Rows of a busy channel by their length, and by every wrong count.
 fn rows() {
     let mut work = vec![0; WORK];
@@ -243,7 +274,8 @@ fn marked_records() {
         };
         assert!(records(&out[..answer.written]).eq([record]));
         assert_eq!(record.runs(), last == 0x11);
-        assert_eq!(state.finish(1), if record.runs() { 0 } else { 4 });
+        assert_eq!(state.finish(1), 0);
+        assert_eq!(state.active(), usize::from(!record.runs()));
     }
 }
 
@@ -473,6 +505,7 @@ fn main() {
     stop_and_refusal();
     refused_calls();
     lamp();
+    drains();
     rows();
     cut_records();
     longest_frame();

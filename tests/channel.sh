@@ -18,6 +18,7 @@ must_fail '^guard: difference' "$copy/guard" run 5 2000 0 0 0 0
 # Any bytes as a state.
 archive_program tests/states.rs "$out/states" "$out"
 "$out/states" 6 3 60000
+must_fail 'was answered 3 only [0-9]* times$' "$out/states" 6 1 100
 for copy in "${wrong_states[@]}"; do
     build_lines "$copy"
     archive_program tests/states.rs "$copy/states" "$copy"
@@ -53,6 +54,11 @@ change 's/row\[slot\]\.phase = bytes\[slot \* HGRPC_ENTRY + 2\]/row[slot].phase 
 gcc -std=c99 -I"$out/wrong/entries" -o "$out/wrong/calls" tests/calls.c "$archive"
 must_fail '^calls: line' "$out/wrong/calls"
 
+mkdir "$out/wrong/phases"
+change 's/HGRPC_PHASE_DRAINING 4/HGRPC_PHASE_DRAINING 3/' include/hgrpc.h "$out/wrong/phases/hgrpc.h"
+gcc -std=c99 -I"$out/wrong/phases" -o "$out/wrong/calls" tests/calls.c "$archive"
+must_fail '^calls: line' "$out/wrong/calls"
+
 mkdir "$out/wrong/length" "$out/wrong/most"
 change 's/body = hgrpc_four_bytes(head);/body = hgrpc_two_bytes(head);/' include/hgrpc.h "$out/wrong/length/hgrpc.h"
 change 's/more = length \/ 4 \* 2;/more = length \/ 8 * 2;/' include/hgrpc.h "$out/wrong/most/hgrpc.h"
@@ -79,9 +85,11 @@ change 's/0 => Ok(on),/0 => Ok(!on),/' bindings/hgrpc.rs "$out/wrong/bindings/hg
 rust -o "$out/wrong/calls_rust" -L native=target/staticlib -l static=hgrpc "$out/wrong/calls.rs"
 must_fail 'assertion `left == right` failed' "$out/wrong/calls_rust"
 
-change 's/1 => Phase::Collecting/1 => Phase::Waiting/' bindings/hgrpc.rs "$out/wrong/bindings/hgrpc.rs"
-rust -o "$out/wrong/calls_rust" -L native=target/staticlib -l static=hgrpc "$out/wrong/calls.rs"
-must_fail 'assertion `left == right` failed' "$out/wrong/calls_rust"
+for expression in 's/1 => Phase::Collecting/1 => Phase::Waiting/' 's/3 => Phase::Running/3 => Phase::Draining/'; do
+    change "$expression" bindings/hgrpc.rs "$out/wrong/bindings/hgrpc.rs"
+    rust -o "$out/wrong/calls_rust" -L native=target/staticlib -l static=hgrpc "$out/wrong/calls.rs"
+    must_fail 'assertion `left == right` failed' "$out/wrong/calls_rust"
+done
 
 for expression in 's/u32::from(two(2)?) << 16/0/' 's/length \/ 4 \* 2/length \/ 8 * 2/'; do
     change "$expression" bindings/hgrpc.rs "$out/wrong/bindings/hgrpc.rs"
@@ -157,12 +165,16 @@ for board in target/board "$out/board"; do
     "$out/programs" board "$board" samples/*.capture
 done
 "$out/programs" boards "$out/board" 1 300
+must_fail 'came up [0-9]* times, less than' "$out/programs" boards "$out/board" 1 20
 change 's/fed.number == 5/0/' examples/board.c "$out/wrong/board.c"
 gcc -std=c99 -Iinclude -o "$out/wrong/board" "$out/wrong/board.c" "$archive"
 must_fail 'and not$' "$out/programs" boards "$out/wrong/board" 1 300
 change 's/hgrpc_coils_apply(&coils/hgrpc_coils_apply(\&before/' examples/board.c "$out/wrong/board.c"
 gcc -std=c99 -Iinclude -o "$out/wrong/board" "$out/wrong/board.c" "$archive"
 must_fail 'and not$' "$out/programs" board "$out/wrong/board" samples/coils.capture
+change 's/act(&record) != 0/act(\&record) == 99/' examples/board.c "$out/wrong/board.c"
+gcc -std=c99 -Iinclude -o "$out/wrong/board" "$out/wrong/board.c" "$archive"
+must_fail 'and not$' "$out/programs" boards "$out/wrong/board" 1 300
 change 's/row\[slot\]\.id, phases/row[0].id, phases/' examples/board.c "$out/wrong/board.c"
 gcc -std=c99 -Iinclude -o "$out/wrong/board" "$out/wrong/board.c" "$archive"
 must_fail 'and not$' "$out/programs" boards "$out/wrong/board" 1 300

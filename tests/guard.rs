@@ -137,12 +137,18 @@ fn other_states(edge: Edge) {
 fn row_lengths(edge: Edge) {
     let [mut state, mut row] = [STATE, 4 * ROW].map(|most| Room::new(most, edge));
     let mut busy = State::fresh();
-    busy.slots[REQUESTS - 1] = Slot {
-        id: 0x0201,
+    busy.slots[0] = Slot {
+        id: 0xffff,
         phase: Phase::Running,
         ..Slot::FREE
     };
-    for count in [1, 0, 2] {
+    busy.slots[REQUESTS - 1] = Slot {
+        id: 0x0201,
+        phase: Phase::Draining,
+        data: true,
+        length: 0,
+    };
+    for count in [2, 1, 3] {
         busy.count = count;
         state.put(&bytes::write(&busy));
         for length in 0..=4 * ROW {
@@ -153,7 +159,7 @@ fn row_lengths(edge: Edge) {
             assert_eq!(row.lent(length), wanted, "a row of {length} bytes");
         }
         let told = active_bytes(state.lent(STATE));
-        assert_eq!(told.is_ok(), count == 1);
+        assert_eq!(told.is_ok(), count == 2);
         assert_eq!(state.lent(STATE), bytes::write(&busy));
     }
 }

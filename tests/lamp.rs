@@ -1,13 +1,15 @@
 //! The count of active requests after every call of a session, by the archive (E6). It
-//! is held to a tally that knows no rules: the bytes taken say where frames end and
-//! which are new, the answers which frames and which finishes were accepted. A call that
-//! is refused, or on a dead channel, leaves the count. A row is asked for too, of a
-//! number of bytes that goes on from line to line.
+//! is held to a tally that knows no rules: the bytes taken say where frames end, which
+//! are new and whose data has all come, the answers which frames and which finishes were
+//! accepted. A finish of an id whose data is still to come leaves the count: it falls
+//! with the last of the data (E8). A call that is refused, or on a dead channel, leaves
+//! it too. A row is asked for too, of a number of bytes that goes on from line to line.
 //!
 //!     lamp SEED SESSIONS
 //!
-//! A session starts from the fresh state, or from a state that is set; there, and after
-//! a poke, the bytes pending are those in the work area.
+//! A session starts from the fresh state, or from a state that is set, whose ids in each
+//! phase are known then; there, and after a poke, the bytes pending are those in the work
+//! area.
 
 #[path = "lamp/history.rs"]
 mod history;
@@ -72,13 +74,16 @@ fn line(line: &str, driver: &mut Driver, history: &mut History) -> Result<(), St
     let asked: Vec<&str> = line.split(' ').collect();
     let told: Vec<&str> = answer.split(' ').collect();
     match (&told[..], &asked[..]) {
-        (["fresh"], _) => history.start(0, &[]),
-        (["set"], [.., count]) => history.start(number(count), pending(driver)),
+        (["fresh"], _) => history.start(0, &[], &[]),
+        (["set"], [.., count]) => {
+            let slots = state(driver).slots;
+            history.start(number(count), &slots, pending(driver));
+        }
         (["poked"], _) => history.poked(pending(driver)),
         (["fed", answer, count, ..], [_, _, input]) => {
             history.fed(&taken(input, count), number(answer))
         }
-        (["finished", answer], _) => history.finished(number(answer)),
+        (["finished", answer], [_, id]) => history.finished(number(id) as u16, number(answer)),
         _ => {}
     }
     let (state, count) = (state(driver), history.count());
@@ -121,7 +126,7 @@ fn run(seed: u64, sessions: u64) {
             "\"{rare}\" came up too seldom in {sessions} sessions"
         ));
     }
-    println!("lamp: {sessions} sessions, {lines} lines, and after each the count is new frames accepted minus finishes accepted, and the row as the second implementation's");
+    println!("lamp: {sessions} sessions, {lines} lines, and after each the count is new frames accepted minus finishes of running ids minus drains ended, and the row as the second implementation's");
 }
 
 fn main() {

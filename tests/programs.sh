@@ -242,9 +242,9 @@ must_fail 'and not$' does "'set'
   coil 3: on, no label" set coil=3 on=false
 # Where the line ends in the middle, and where a frame is refused there, the board tells which requests are active.
 active="command 1: 'upload', data follows
-  refused 40: unknown command
+  refused 40: unknown command; its data is drained
 active: 2
-  slot 0: request 1, waiting
+  slot 0: request 1, draining
   slot 1: request 3, collecting"
 printed=$(head -c 93 samples/two-laptops.capture | "$out/coils")
 [ "$printed" = "$active" ] || { printf 'the board writes\n%s\n' "$printed"; exit 1; }

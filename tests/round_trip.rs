@@ -20,10 +20,11 @@ use second::value::{read_entries, Value};
 use std::process::exit;
 use tally::Tally;
 
-const MET: [&str; 15] = [
+const MET: [&str; 16] = [
     "a fresh channel",
     "one slot free",
     "the first slot in use",
+    "a slot that drains",
     "the stream open",
     "other streams open",
     "one piece",
@@ -73,6 +74,13 @@ fn command(sending: &Sending) -> Vec<u8> {
     .command()
 }
 
+const USED: [Phase; 4] = [
+    Phase::Collecting,
+    Phase::Waiting,
+    Phase::Running,
+    Phase::Draining,
+];
+
 /// A state that is ready for the request, with up to seven slots in use.
 fn ready(sending: &Sending, random: &mut Random, tally: &mut Tally) -> State {
     let mut state = State::fresh();
@@ -80,7 +88,7 @@ fn ready(sending: &Sending, random: &mut Random, tally: &mut Tally) -> State {
     let mut seats: Vec<usize> = (0..SLOTS).collect();
     random.shuffle(&mut seats);
     for (seat, place) in seats[..used].iter().zip(1..) {
-        let phase = random.pick(&[Phase::Collecting, Phase::Waiting, Phase::Running]);
+        let phase = random.pick(&USED);
         let length = match phase {
             Phase::Collecting => random.between(0, COMMAND_LONGEST) as u64,
             _ => 0,
@@ -89,7 +97,7 @@ fn ready(sending: &Sending, random: &mut Random, tally: &mut Tally) -> State {
             // Odd, and none of them the request's own.
             id: sending.request.wrapping_add(2 * place),
             phase,
-            data: phase == Phase::Waiting || random.percent(50),
+            data: matches!(phase, Phase::Waiting | Phase::Draining) || random.percent(50),
             length,
         };
     }
@@ -104,6 +112,8 @@ fn ready(sending: &Sending, random: &mut Random, tally: &mut Tally) -> State {
     tally.add_if(used == 0 && state.open.is_empty(), "a fresh channel");
     tally.add_if(used == SLOTS - 1, "one slot free");
     tally.add_if(seats[..used].contains(&0), "the first slot in use");
+    let drains = state.used().any(|slot| slot.phase == Phase::Draining);
+    tally.add_if(drains, "a slot that drains");
     tally.add_if(!sending.begin, "the stream open");
     tally.add_if(state.open.len() > 1, "other streams open");
     state

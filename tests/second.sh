@@ -103,8 +103,9 @@ declare -A wrong_far_searches=(
 )
 # Wrong counts of active requests, wrong readings of rule 3 for the count, and wrong answers to the panel (E6).
 declare -A wrong_counts=(
-    [finish_not_counted]='s/(news\.count() - finishes) as u8/news.count() as u8/'
-    [continuation_counted]='s/filter(|frame| frame\.is_command(NEW));/filter(|frame| frame.is_command(NEW | CONTINUATION));/'
+    [finish_not_counted]='s/ - finishes - / - /'
+    [drain_not_counted]='s/ - self\.drains_ended()//'
+    [continuation_counted]='s/filter(|frame| frame\.is_command(NEW))$/filter(|frame| frame.is_command(NEW | CONTINUATION))/'
     [refused_new_counted]='s/^            self\.dead = number;$/& if frame.is_command(NEW) { self.history.lead(Frame::write(0, 0, 2, 0x11, \&[])); }/'
     [wrong_count_fed]='s/!plain_ways(&state)\.is_empty() || /plain_ways(\&state).iter().any(|way| *way != crate::state::Way::CountWrong) || /'
     [wrong_count_finished]='s/self\.shapeless\.is_some()/self.shapeless.as_ref().is_some_and(|state| plain_ways(state) != [crate::state::Way::CountWrong])/'
@@ -124,6 +125,30 @@ declare -A wrong_lamps=(
     [free_entry_left]='s/let \[low, high\] = /if slot.phase == crate::state::Phase::Free { continue; } &/'
     [used_slots_first]='s/zip(&state\.slots)/zip({ let mut slots = state.slots; slots.sort_by_key(|slot| slot.phase == crate::state::Phase::Free); slots })/'
     [high_byte_first]='s/slot\.id\.to_le_bytes()/slot.id.to_be_bytes()/'
+)
+
+# Wrong readings of E8, and of rule 3 for a slot that drains.
+declare -A wrong_drains=(
+    [freed_at_the_finish]='s/Phase::Waiting => Event::Drain(id)/Phase::Waiting => Event::Finish(id)/'
+    [counted_out_at_the_finish]='s/any(|step| step\.ends_data(\*id))/any(|_| true)/'
+    [waiting_not_finished]='s/^ *Phase::Waiting => Event::Drain(id),$//'
+    [waiting_not_finished_in_mid_frame]='s/^            self\.history\.finish(id)$/if !self.under_way.is_empty() \&\& self.history.phase(id) == Phase::Waiting { 4 } else { self.history.finish(id) }/'
+    [finished_twice]='s/Phase::Waiting => Event::Drain(id)/Phase::Waiting | Phase::Draining => Event::Drain(id)/'
+    [data_refused]='s/ && phase != Phase::Draining$//'
+    [last_frame_makes_it_run]='s/(LAST_DATA, Phase::Draining) => Phase::Free/(LAST_DATA, Phase::Draining) => Phase::Running/'
+    [first_frame_frees]='s/^                _ => before,$/_ if before == Phase::Draining => Phase::Free, &/'
+    [empty_frame_frees_not]='s/(LAST_DATA, Phase::Draining) =>/(LAST_DATA, Phase::Draining) if frame.payload().is_empty() => before, &/'
+    [new_of_draining]='s/past\.phase(frame\.request()) != Phase::Free/!matches!(past.phase(frame.request()), Phase::Free | Phase::Draining)/'
+    [continuation_of_draining]='s/past\.phase(frame\.request()) != Phase::Collecting/!matches!(past.phase(frame.request()), Phase::Collecting | Phase::Draining)/'
+    [no_room_asked_for]='s/if self\.next_is_last() && output/if self.next_is_last() \&\& !(self.under_way.len() >= HEADER \&\& self.under_way[7] >> 4 == DATA \&\& self.history.phase(u16::from_le_bytes([self.under_way[3], self.under_way[4]])) == Phase::Draining) \&\& output/'
+    [stream_flags_ignored]='s/^        self\.add(id, Event::Frame(frame));$/let frame = if frame.kind() == DATA \&\& self.phase(id) == Phase::Draining { Frame::write(id, 0, 2, DATA << 4 | frame.flags(), \&[]) } else { frame }; &/'
+)
+declare -A wrong_drained_shapes=(
+    [without_data_bit]='s/(draining && !slot\.data, Way::DrainingWithoutData),//'
+    [with_length]='s/(draining && long, Way::DrainingWithLength),//'
+    [with_even_id]='s/(!free && slot\.id % 2 == 0/(!free \&\& !draining \&\& slot.id % 2 == 0/'
+    [with_id_of_another]='s/(ids\.len() < used, /(ids.len() < used \&\& state.used().all(|slot| slot.phase != Phase::Draining), /'
+    [not_counted]='s/(usize::from(state\.count) != used, /(usize::from(state.count) != state.used().filter(|slot| slot.phase != Phase::Draining).count(), /'
 )
 
 # Wrong sizes of E7: what the receiver takes, where it puts it, how much output it asks for, and rule 3's limits.
@@ -187,12 +212,15 @@ declare -A wrong_logs=(
     make_wrong_lines wrong_lamps lamp.rs
     make_wrong_lines wrong_sizes frame.rs
     make_wrong_lines wrong_takings receiver.rs
+    make_wrong_lines wrong_drains receiver.rs
+    make_wrong_lines wrong_drained_shapes state.rs
 ) &
 wrong_copies=$!
 children+=("$wrong_copies")
 wrongs=$((wrongs + ${#wrong_senders[@]} + ${#wrong_boards[@]} + ${#wrong_layouts[@]} \
     + ${#wrong_searches[@]} + ${#wrong_far_searches[@]} \
     + ${#wrong_counts[@]} + ${#wrong_shapes[@]} + ${#wrong_lamps[@]} \
+    + ${#wrong_drains[@]} + ${#wrong_drained_shapes[@]} \
     + ${#wrong_sizes[@]} + ${#wrong_takings[@]} + ${#wrong_limits[@]} + ${#wrong_logs[@]}))
 
 "$out/sessions" traces
@@ -208,11 +236,12 @@ wrong_receiver() {
     wrong_receivers+=("$copy")
 }
 wrong_receivers=()
-wrong_receiver empty_is_last 's/if frame\.flags() == LAST_DATA {/if frame.payload().is_empty() {/'
+wrong_receiver empty_is_last 's/match (frame\.flags(), before) {/match (if frame.payload().is_empty() { LAST_DATA } else { MORE_DATA }, before) {/'
 wrong_receiver end_ignored 's/is_some_and(|frame| !frame\.ends())/is_some()/'
 wrong_receiver mark_as_1 's/mark << 1 | data/mark | data/'
 wrong_receiver mark_left_out 's/mark << 1 | data/data/'
 wrong_receiver mark_of_the_last_payload 's/command::loose(&command)/command::loose(frame.payload())/'
+wrong_receiver record_of_a_drain 's/ && self\.phase(frame\.request()) != Phase::Draining//'
 
 # Wrong readers of commands, and four that write captures wrongly.
 wrong_reader() {
@@ -275,7 +304,8 @@ wrong_bytes() {
 wrong_states=()
 wrong_bytes high_byte_first 's/&number\.to_le_bytes()\[\.\.count\]/\&number.to_be_bytes()[8 - count..]/; s/bytes\.iter()\.rev()/bytes.iter()/'
 wrong_bytes data_before_phase 's/bytes\.push(slot\.phase as u8);/bytes.push(slot.data.into());/; t; s/bytes\.push(slot\.data\.into());/bytes.push(slot.phase as u8);/; s/match bytes\[2\]/match bytes[3]/; s/flag(&bytes\[3\])/flag(\&bytes[2])/'
-wrong_bytes fifth_phase 's/3 => Phase::Running/3.. => Phase::Running/'
+wrong_bytes sixth_phase 's/4 => Phase::Draining/4.. => Phase::Draining/'
+wrong_bytes running_is_4 's/3 => Phase::Running/3 => Phase::Draining/; s/4 => Phase::Draining/4 => Phase::Running/; s/slot\.phase as u8/[0, 1, 2, 4, 3][slot.phase as usize]/'
 wrong_bytes bool_of_two 's/1 => Some(true)/1.. => Some(true)/'
 wrong_bytes third_byte_of_pending_ignored 's/pending: little(&plain\[1\.\.\])/pending: little(\&plain[1..3])/'
 # What no line shows: the count at another place of the bytes, and a row that is too short by one byte.

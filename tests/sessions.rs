@@ -1,6 +1,7 @@
 //! Sessions of the channel, for the second implementation and for others.
 //!
 //!     sessions make SEED COUNT      prints the lines of COUNT sessions
+//!     sessions drains SEED COUNT    prints those of COUNT sessions of the kind that drains
 //!     sessions check SEED COUNT     runs them in the second receiver and holds each against the uncut reading
 //!     sessions traces [PROGRAM]     the papers' traces, through the lines, by the second receiver or by PROGRAM
 //!     sessions commands SEED COUNT  prints the lines of the calls on COUNT commands
@@ -14,6 +15,10 @@
 mod counts;
 #[path = "sessions/coverage.rs"]
 mod coverage;
+#[path = "sessions/drain_traces.rs"]
+mod drain_traces;
+#[path = "sessions/drains.rs"]
+mod drains;
 #[path = "sessions/lamps.rs"]
 mod lamps;
 #[path = "sessions/traces.rs"]
@@ -27,12 +32,10 @@ use std::io::{stdout, BufWriter, Result, Write};
 use std::process::exit;
 use watch::Watch;
 
-fn make(seed: u64, count: u64) -> Result<()> {
+fn make(sessions: impl Iterator<Item = Vec<String>>) -> Result<()> {
     let mut output = BufWriter::new(stdout().lock());
-    for index in 0..count {
-        for line in generate::session(seed, index) {
-            writeln!(output, "{line}")?;
-        }
+    for line in sessions.flatten() {
+        writeln!(output, "{line}")?;
     }
     output.flush()
 }
@@ -84,12 +87,19 @@ fn main() -> Result<()> {
     let words: Vec<&str> = arguments.iter().map(String::as_str).collect();
     let number = |word: &str| word.parse().expect("a number");
     match words[..] {
-        ["make", seed, count] => make(number(seed), number(count))?,
+        ["make", seed, count] => {
+            let seed = number(seed);
+            make((0..number(count)).map(|index| generate::session(seed, index)))?
+        }
+        ["drains", seed, count] => {
+            let seed = number(seed);
+            make((0..number(count)).map(|index| generate::drain_session(seed, index)))?
+        }
         ["check", seed, count] => check(number(seed), number(count)),
         ["traces"] => traces::run(None)?,
         ["traces", program] => traces::run(Some(program))?,
         ["commands", seed, count] => commands(number(seed), number(count))?,
-        _ => fail("make SEED COUNT, check SEED COUNT, traces [PROGRAM] or commands SEED COUNT"),
+        _ => fail("make, drains, check or commands, SEED and COUNT, or traces [PROGRAM]"),
     }
     Ok(())
 }

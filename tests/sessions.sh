@@ -19,18 +19,25 @@ compare_sessions() {
     done
 }
 
-# A wrong size is found out by the lines of the first file.
+# A wrong size, a count that is wrong and passes, and a wrong drain are found out by the lines of the first file.
 answered=0
 answers=$out
-for copy in "$out"/wrong/wrong_{sizes,takings,limits}/*; do
+for copy in "$out"/wrong/wrong_{sizes,takings,limits,shapes,drains,drained_shapes}/*; do
     must_fail '^replay differs' compare_lines tests/replay_lines/requests.txt "$copy/second_replay"
 done
 compare_sessions 1 1
 
 # A wrong receiver, a wrong count and a wrong answer to the panel is found out by the first of them.
 awk 'length < 2000 && ++taken <= 2000' "$out/lines" >"$out/first"
-for copy in "${wrong_receivers[@]}" "$out"/wrong/wrong_{counts,shapes,lamps}/*; do
+for copy in "${wrong_receivers[@]}" "$out"/wrong/wrong_{counts,lamps}/*; do
     must_fail '^replay differs' compare_lines "$out/first" "$copy/second_replay"
+done
+
+# A wrong drain is found out by the first sessions of the kind that drains, too.
+"$out/sessions" drains 1 40 >"$out/drains"
+compare_lines "$out/drains" "$out/second_replay"
+for copy in "$out"/wrong/wrong_{drains,drained_shapes}/*; do
+    must_fail '^replay differs' compare_lines "$out/drains" "$copy/second_replay"
 done
 
 # The archive's count and a row after every call; wrong readings of them, and wrong tallies of what was accepted.
@@ -46,7 +53,7 @@ done
 mkdir -p "$out/wrong/tally/lamp"
 cp tests/lamp.rs tests/tally.rs "$out/wrong/tally"
 for expression in 's/i64::from(new && !refused)/i64::from(new)/' 's/frame\[7\] & 1 != 0/frame[7] \& 3 != 0/' \
-    's/i64::from(number == 0)/0/'; do
+    's/i64::from(number == 0 && !early)/0/' 's/number == 0 && !early/number == 0/' 's/i64::from(drained)/0/'; do
     change "$expression" tests/lamp/history.rs "$out/wrong/tally/lamp/history.rs"
     archive_program "$out/wrong/tally/lamp.rs" "$out/wrong/tally/run" "$out"
     must_fail 'the count is' "$out/wrong/tally/run" 1 100

@@ -1,6 +1,7 @@
 //! The whole way of a command: what laptops ask for is sent by the archive, fed to
 //! the archive in random pieces, and done by the archive's board. The board is then
-//! what a plain model of the coils is that does what was asked for.
+//! what a plain model of the coils is that does what was asked for. A command that the
+//! board refuses is finished at once, so that data behind it is drained (E8).
 //!
 //!     whole_way run SEED SESSIONS       several laptops at once, several messages of each
 //!     whole_way damaged SEED SESSIONS   the same with a bit of each set's last byte changed on the way
@@ -13,14 +14,14 @@ mod tally;
 mod wish;
 
 use generate::Random;
-use hgrpc::{records, Board, Kind, Record, State, COILS, LABEL_LONGEST, OUTPUT, WORK};
+use hgrpc::{records, Board, Kind, Phase, Record, State, COILS, LABEL_LONGEST, OUTPUT, WORK};
 use laptops::{line, Due, Line};
-use std::collections::VecDeque;
+use std::collections::{BTreeSet, VecDeque};
 use std::process::exit;
 use tally::Tally;
 use wish::Wish;
 
-const MET: [&str; 16] = [
+const MET: [&str; 18] = [
     "four laptops",
     "a command whole while another is under way",
     "frames of one byte",
@@ -34,6 +35,8 @@ const MET: [&str; 16] = [
     "5, and the rest offered again",
     "a command done",
     "a command that the board refuses",
+    "a command that the board refuses, and data behind it",
+    "data of a refused command drained",
     "a coil switched",
     "a label shorter than the one before",
     "off while a coil is on",
@@ -96,6 +99,8 @@ struct Site {
     model: Model,
     /// What is still to come, in the order in which the commands become whole.
     due: VecDeque<Due>,
+    /// The refused requests that were finished before their data.
+    early: BTreeSet<u16>,
 }
 
 impl Site {
@@ -114,10 +119,38 @@ impl Site {
             must(self.model.is(&self.board), "the coils do something else")?;
             tally.add_if(number == 0, "a command done");
             tally.add_if(number != 0, "a command that the board refuses");
+            if number != 0 && record.bit {
+                tally.add_if(true, "a command that the board refuses, and data behind it");
+                self.early.insert(record.request);
+                return self.finish(record.request);
+            }
         }
-        if record.runs() {
-            let number = self.state.finish(record.request);
-            must(number == 0, &format!("finish answers {number}"))?;
+        match record.runs() && !self.early.contains(&record.request) {
+            true => self.finish(record.request),
+            false => Ok(()),
+        }
+    }
+
+    /// How many requests drain.
+    fn drains(&self) -> usize {
+        let row = self.state.row();
+        let drains = row.iter().filter(|entry| entry.phase == Phase::Draining);
+        drains.count()
+    }
+
+    fn finish(&mut self, id: u16) -> Result<(), String> {
+        let number = self.state.finish(id);
+        must(number == 0, &format!("finish answers {number}"))
+    }
+
+    /// What one feed wrote. Data of a request that was finished early comes only where
+    /// it was written before the finish, by the same feed.
+    fn take_all(&mut self, output: &[u8], tally: &mut Tally) -> Result<(), String> {
+        let drained = self.early.clone();
+        for record in records(output) {
+            let late = drained.contains(&record.request);
+            must(!late, "a record of a request that drains came")?;
+            self.take(&record, tally)?;
         }
         Ok(())
     }
@@ -135,17 +168,19 @@ impl Site {
             let any = random.between(1, left);
             let length = [left, any, any.min(40), 1][style];
             let piece = &bytes[place..][..length];
+            let drains = self.drains();
             let fed = self.state.feed(&mut work, piece, &mut output);
-            for record in records(&output[..fed.written]) {
-                self.take(&record, tally)?;
-            }
+            let ended = self.drains() < drains;
+            tally.add_if(ended, "data of a refused command drained");
+            self.take_all(&output[..fed.written], tally)?;
             place += fed.taken;
             tally.add_if(fed.number == 5, "5, and the rest offered again");
             let goes_on = fed.number == 5 || fed.number == 0 && fed.taken == length;
             let answer = format!("feed answers {} at byte {place}", fed.number);
             must(goes_on, &answer)?;
         }
-        must(self.due.is_empty(), "a command did not come")
+        must(self.due.is_empty(), "a command did not come")?;
+        must(self.state.active() == 0, "a request is still active")
     }
 }
 
@@ -168,6 +203,7 @@ fn session(random: &mut Random, damaged: bool, tally: &mut Tally) -> Result<usiz
         board: Board::first(),
         model: Model::first(),
         due,
+        early: BTreeSet::new(),
     };
     site.feed(&line, random, tally)?;
     Ok(count)

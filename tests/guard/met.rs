@@ -50,7 +50,7 @@ impl Met {
                 self.see("output", length.parse().expect("a number"));
                 self.see("input", spelled(input));
             }
-            ("row", [_, entries]) => self.see("entries", entries.parse().expect("a number")),
+            ("row", [_, entries]) => self.row(&told, entries),
             ("board", [_, command]) if *command != "fresh" => {
                 self.see("board", told[1].parse().expect("a number"));
                 self.see("applied", spelled(command));
@@ -75,6 +75,16 @@ impl Met {
                 self.see_if(told[1] == "0" && told[2] == *length, "filled");
             }
             _ => {}
+        }
+    }
+
+    fn row(&mut self, told: &[&str], entries: &str) {
+        self.see("entries", entries.parse().expect("a number"));
+        for (number, letter) in "fcwrd".chars().enumerate() {
+            let end = format!(":{letter}");
+            if told.iter().any(|word| word.ends_with(&end)) {
+                self.see("phase", number);
+            }
         }
     }
 
@@ -107,7 +117,7 @@ impl Met {
 }
 
 /// What must come up of the channel's calls.
-fn channel() -> [(&'static str, Vec<usize>); 8] {
+fn channel() -> [(&'static str, Vec<usize>); 9] {
     let fed = [0, 1, 2, 3, 5].into_iter().chain(11..=29).collect();
     let finished = [0, 3, 4].into_iter().chain(11..=29).collect();
     [
@@ -116,6 +126,7 @@ fn channel() -> [(&'static str, Vec<usize>); 8] {
         ("active", vec![0, 3]),
         ("row", vec![0, 3, 9]),
         ("entries", vec![0, 1, 7, 8, 9]),
+        ("phase", vec![0, 1, 2, 3, 4]),
         (
             "work",
             vec![0, 1, 7, 8, FRAME_PLACES, WORK - 1, WORK, WORK + 1],

@@ -16,8 +16,8 @@ const TOUCHED: i32 = 11;
 
 const ID: u16 = 15;
 
-/// Seven requests run, so that the next one takes the last slot, whose part is
-/// at the end of the work area. Stream 1 is open.
+/// Six requests run and one drains, so that the next one takes the last slot, whose
+/// part is at the end of the work area. Stream 1 is open.
 fn start() -> State {
     let mut state = State::fresh();
     for (slot, id) in state.slots.iter_mut().zip((1..ID).step_by(2)) {
@@ -27,6 +27,8 @@ fn start() -> State {
             ..Slot::FREE
         };
     }
+    state.slots[6].phase = Phase::Draining;
+    state.slots[6].data = true;
     state.open.insert(1);
     state.count = 7;
     state
@@ -150,7 +152,7 @@ fn lamps(over: &str) {
         ]
     };
     assert_eq!((numbers, count), ([0, 0], 7));
-    assert_eq!(row.room.lent(ROW)[ROW - 6..], [13, 0, 3, 0, 0, 0]);
+    assert_eq!(row.room.lent(ROW)[ROW - 6..], [13, 0, 4, 0, 0, 0]);
 }
 
 /// The command's last byte is the head of its argument.

@@ -14,14 +14,16 @@ use std::io::{Result, Write};
 use std::process::{Command, Stdio};
 
 /// Parts of what is printed of a command and of a slot, and how often each must come up.
-const KINDS: [&str; 7] = [
+const KINDS: [&str; 9] = [
     "  refused 40:",
     "  refused 41:",
     "  refused 42:",
     "  refused 43:",
+    "; its data is drained",
     "  coil ",
     ", collecting",
     ", waiting",
+    ", draining",
 ];
 const LEAST: usize = 20;
 
@@ -36,12 +38,13 @@ fn words(number: u32) -> &'static str {
     row.expect("a row of the table")
 }
 
-/// What the board prints of a record.
-fn printed(record: &Record, board: &mut Board) -> String {
+/// What the board prints of a record, and whether it refuses the command.
+fn printed(record: &Record, board: &mut Board) -> (String, bool) {
     let (request, bit) = (record.request, record.bit == 1);
     if !record.is_command {
         let last = if bit { ", the last" } else { "" };
-        return format!("data {request}: {} bytes{last}\n", record.content.len());
+        let text = format!("data {request}: {} bytes{last}\n", record.content.len());
+        return (text, false);
     }
     let name = byte_string(command::name(record.content));
     let follows = if bit { ", data follows" } else { "" };
@@ -49,7 +52,8 @@ fn printed(record: &Record, board: &mut Board) -> String {
     let before = board.clone();
     let number = board.apply(record.content);
     if number != 0 {
-        text += &format!("  refused {number}: {}\n", words(number));
+        let drained = if bit { "; its data is drained" } else { "" };
+        text += &format!("  refused {number}: {}{drained}\n", words(number));
     }
     for (number, (old, new)) in before.coils.iter().zip(&board.coils).enumerate() {
         if (old.on, &old.label) != (new.on, &new.label) {
@@ -61,7 +65,7 @@ fn printed(record: &Record, board: &mut Board) -> String {
             text += &format!("  coil {number}: {switch}, {label}\n");
         }
     }
-    text
+    (text, number != 0)
 }
 
 /// The second implementation in the board's place.
@@ -73,15 +77,17 @@ struct Site {
 }
 
 impl Site {
-    /// The number of a piece. The output has room for one record, which is done and
-    /// finished before the rest is offered.
+    /// The number of a piece. The output has room for one record, which is done before
+    /// the rest is offered. A request that runs is finished then, and so is one that is
+    /// refused, whose data is drained.
     fn piece(&mut self, mut piece: &[u8]) -> u8 {
         loop {
             let fed = self.receiver.feed(piece, &mut self.output);
             if fed.written > 0 {
                 let record = Record::read(&self.output[..fed.written]);
-                self.text += &printed(&record, &mut self.board);
-                if record.is_last() {
+                let (text, refused) = printed(&record, &mut self.board);
+                self.text += &text;
+                if refused || record.is_last() {
                     self.receiver.finish(record.request);
                 }
             }
@@ -104,6 +110,7 @@ impl Site {
                 Phase::Collecting => "collecting",
                 Phase::Waiting => "waiting",
                 Phase::Running => "running",
+                Phase::Draining => "draining",
             };
             self.text += &format!("  slot {place}: request {}, {phase}\n", slot.id);
         }

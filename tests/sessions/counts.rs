@@ -1,6 +1,7 @@
 //! What is counted of starts and calls.
 
 use crate::coverage::Coverage;
+use crate::drains::Drains;
 use crate::watch::{ways, Before, Feed};
 use second::frame::{
     claimed, COMMAND, CONTINUATION, DATA, HEADER, MORE, PAYLOAD, RECORD, SETTINGS,
@@ -25,11 +26,13 @@ impl Coverage {
             poked,
             untaken: None,
         };
+        self.drains = Drains::default();
         let Some(state) = state else {
             return;
         };
         let used = state.used().next().is_some();
         self.add_if(used, "start with slots in use");
+        self.draining_start(receiver, state);
         self.add_if(state.pending > 0, "start in mid-frame");
         let full = state.pending == PENDING;
         self.add_if(full, "start with 65,542 bytes pending");
@@ -55,6 +58,7 @@ impl Coverage {
                 self.number(3);
                 let (plain, held) = ways(receiver);
                 self.shape(&plain, &held);
+                self.draining_shape(&before.state, &plain, &held);
                 self.feed_refused(receiver, feed);
                 self.add_if(dead >= 11, "3 though dead");
             }
@@ -101,6 +105,7 @@ impl Coverage {
             receiver.work()[7]
         };
         let kind = last >> 4;
+        self.stopped_drain(receiver, kind);
         let silent = kind == SETTINGS || kind == COMMAND && last & MORE != 0;
         self.add_if(silent, "5 before a frame that writes nothing");
         let short = feed.output - feed.written == RECORD - 1;
@@ -173,6 +178,7 @@ impl Coverage {
         match answer {
             0 => {
                 self.add("finish accepted");
+                self.finished_early(receiver, before, id);
                 let mid = before.state.pending > 0;
                 self.add_if(mid, "finish accepted in mid-frame");
                 let odd = !ways(receiver).1.is_empty();
@@ -184,16 +190,21 @@ impl Coverage {
             }
             4 => {
                 self.number(4);
-                let held = before.state.used().find(|slot| slot.id == id);
-                self.add(match held.map(|slot| slot.phase) {
-                    Some(Phase::Collecting) => "finish of a collecting id, 4",
-                    Some(_) => "finish of a waiting id, 4",
-                    None => "finish of an id that is not active, 4",
+                self.add(match phase_of(&before.state, id) {
+                    Phase::Collecting => "finish of a collecting id, 4",
+                    Phase::Free => "finish of an id that is not active, 4",
+                    _ => "finish of a draining id, 4",
                 });
             }
             _ => self.add("dead answered to a finish"),
         }
     }
+}
+
+/// The phase of an id, free if it is not active.
+pub fn phase_of(state: &State, id: u16) -> Phase {
+    let held = state.used().find(|slot| slot.id == id);
+    held.map_or(Phase::Free, |slot| slot.phase)
 }
 
 /// More than a payload could have before E7, which is what a sender may still write,

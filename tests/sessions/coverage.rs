@@ -1,6 +1,7 @@
 //! How often the sessions meet each thing that is to be met.
 
 use crate::counts::{is_large, Memory};
+use crate::drains::{self, Drains};
 use crate::lamps;
 use generate::{heads, Head};
 use second::command::lacks_args;
@@ -16,8 +17,8 @@ use std::collections::BTreeMap;
 /// Of data frames that were too long before E7.
 const LARGE_DATA: &str = "data of 4,097 to 65,535 bytes";
 
-/// All but the refusal numbers, the ways to be out of shape, and what is of E6.
-const MET: [&str; 80] = [
+/// All but the refusal numbers, the ways to be out of shape, and what is of E6 and E8.
+const MET: [&str; 79] = [
     "2 though 3 applies too",
     "3 though dead",
     "dead answered to a feed",
@@ -26,7 +27,6 @@ const MET: [&str; 80] = [
     "3 answered to a finish",
     "finish accepted with a held length out of shape",
     "finish of a collecting id, 4",
-    "finish of a waiting id, 4",
     "finish of an id that is not active, 4",
     "finish accepted",
     "finish accepted in mid-frame",
@@ -105,18 +105,21 @@ pub struct Coverage {
     counts: Vec<(String, u64)>,
     places: BTreeMap<String, usize>,
     pub memory: Memory,
+    pub drains: Drains,
 }
 
 impl Coverage {
     pub fn new() -> Coverage {
         let numbers = (1..=9).chain(11..=29).map(number_name);
         let ways = Way::ALL.into_iter().map(way_name);
-        let met = MET.into_iter().map(String::from).chain(lamps::names());
+        let met = MET.into_iter().chain(drains::MET).map(String::from);
+        let met = met.chain(lamps::names());
         let names: Vec<String> = numbers.chain(ways).chain(met).collect();
         Coverage {
             counts: names.iter().map(|name| (name.clone(), 0)).collect(),
             places: names.into_iter().zip(0..).collect(),
             memory: Memory::default(),
+            drains: Drains::default(),
         }
     }
 

@@ -37,11 +37,12 @@ const MET: [&str; 20] = [
     "row of less than eight entries, 3",
 ];
 
-const PHASES: [(Phase, &str); 4] = [
+const PHASES: [(Phase, &str); 5] = [
     (Phase::Free, "free"),
     (Phase::Collecting, "collecting"),
     (Phase::Waiting, "waiting"),
     (Phase::Running, "running"),
+    (Phase::Draining, "draining"),
 ];
 
 fn entry_name(place: usize, phase: Phase) -> String {

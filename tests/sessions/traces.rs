@@ -1,5 +1,6 @@
 //! The papers' traces, as lines and their answers.
 
+use crate::drain_traces;
 use second::frame::{PAYLOAD, RECORD};
 use second::replay::Replay;
 use second::state::WORK;
@@ -7,35 +8,35 @@ use std::io::{Result, Write};
 use std::process::{Command, Stdio};
 
 /// T1's command, and a header for it without its last byte.
-const COMMAND: &str = "a2446e616d65437365744461726773a0";
+pub const COMMAND: &str = "a2446e616d65437365744461726773a0";
 const HEADER: &str = "10000001000101";
-const FREE: &str = "0:f:0:0";
+pub const FREE: &str = "0:f:0:0";
 /// More than the longest record.
 const OUTPUT: usize = 70_000;
 
 /// A line of a trace, and its answer.
-struct Asked {
+pub struct Asked {
     trace: &'static str,
     line: String,
     answer: String,
 }
 
-type Table = Vec<Asked>;
+pub type Table = Vec<Asked>;
 
 /// A trace on a fresh channel, which is added to a table.
-struct Trace<'t> {
+pub struct Trace<'t> {
     name: &'static str,
     table: &'t mut Table,
 }
 
 impl<'t> Trace<'t> {
-    fn new(table: &'t mut Table, name: &'static str) -> Trace<'t> {
+    pub fn new(table: &'t mut Table, name: &'static str) -> Trace<'t> {
         let mut trace = Trace { name, table };
         trace.ask(&format!("fresh {WORK}"), "fresh");
         trace
     }
 
-    fn ask(&mut self, line: &str, answer: &str) {
+    pub fn ask(&mut self, line: &str, answer: &str) {
         self.table.push(Asked {
             trace: self.name,
             line: line.to_string(),
@@ -44,7 +45,7 @@ impl<'t> Trace<'t> {
     }
 
     /// Feeds bytes that are all taken.
-    fn feed(&mut self, hex: &str, number: u8, records: &str) {
+    pub fn feed(&mut self, hex: &str, number: u8, records: &str) {
         let (taken, written) = (hex.len() / 2, records.len() / 2);
         let shown = if records.is_empty() { "-" } else { records };
         let answer = format!("fed {number} {taken} {written} {shown}");
@@ -53,7 +54,7 @@ impl<'t> Trace<'t> {
     }
 
     /// The count, and a row whose first entries are these, the others free.
-    fn shows(&mut self, count: usize, first: &str) {
+    pub fn shows(&mut self, count: usize, first: &str) {
         self.ask("active", &format!("active 0 {count}"));
         let free = 8 - first.matches(' ').count();
         let answer = format!("row 0{first}{}", " 0:f".repeat(free));
@@ -77,6 +78,7 @@ pub fn run(program: Option<&str>) -> Result<()> {
     wrong_counts(table);
     larger_frames(table);
     converted_logs(table);
+    drain_traces::add(table);
     let answers = match program {
         Some(program) => program_answers(program, table)?,
         None => second_answers(table),
@@ -86,7 +88,7 @@ pub fn run(program: Option<&str>) -> Result<()> {
         assert_eq!(*answer, asked.answer, "{}: {}", asked.trace, asked.line);
     }
     let who = program.unwrap_or("the second implementation");
-    println!("sessions: T1 to T12, E1, E5, E6 and E7 as in the papers, by {who}");
+    println!("sessions: T1 to T12, E1, E5, E6, E7 and E8 as in the papers, by {who}");
     Ok(())
 }
 
@@ -156,7 +158,8 @@ fn lengths(table: &mut Table) {
     refused.ask("state", &format!("state 11 0 {free} - 0"));
 }
 
-/// T6: T1's request, then seven that are collecting, then a ninth.
+/// T6: T1's request, then seven that are collecting, then a ninth. The finish is one of a
+/// running id (E8).
 fn ninth_request(table: &mut Table) {
     for finished in [false, true] {
         let mut t6 = Trace::new(table, "T6");
@@ -283,7 +286,7 @@ fn lamp(table: &mut Table) {
     let second = format!("1000000300010019{COMMAND}");
     e6.feed(&second, 0, &record(3, 1));
     e6.shows(2, " 1:r 3:w");
-    e6.ask("finish 3", "finished 4");
+    e6.ask("finish 5", "finished 4");
     e6.shows(2, " 1:r 3:w");
     e6.feed("0000000300010022", 0, "030000000200030001");
     e6.shows(2, " 1:r 3:r");

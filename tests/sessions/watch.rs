@@ -142,13 +142,17 @@ impl Watch {
         let before = uncut.records.len();
         for byte in &feed.input[..feed.taken] {
             let written = uncut.records.len() - before;
-            if next_is_last(uncut) {
+            let judged = next_is_last(uncut).then(|| uncut.state.clone());
+            if judged.is_some() {
                 let room = feed.output.checked_sub(written + RECORD);
                 must(room.is_some(), "a last byte was taken without room")?;
                 let exact = room == Some(0) && written > 0;
                 coverage.add_if(exact, "last byte taken with 65,544 bytes of output left");
             }
             uncut.byte(*byte);
+            if let Some(before) = judged {
+                coverage.judged(&before, uncut);
+            }
         }
         counts(&feed, uncut)?;
         self.records.extend(feed.records);

@@ -116,11 +116,11 @@ impl Calls {
         let mut left = state.to_vec();
         let (work, output) = (&mut lent.work[..size], &mut lent.output[..room]);
         let fed = feed_bytes(&mut left, work, input, output);
-        self.tally.add("feed", fed.number);
         let number = fed.number;
         let defined = matches!(number, 0..=3 | 5 | 11..=29);
         must(defined, format_args!("feed answers {number}"))?;
         let read = bytes::read(state);
+        self.tally.add_feed(number, read.as_ref());
         let dead = read.as_ref().is_some_and(|state| state.dead != 0);
         if matches!(number, 1..=3) || dead {
             let kept = left == state && lent.is_kept(size, room);

@@ -13,18 +13,22 @@ pub struct Real {
 
 type Is = fn(&State) -> bool;
 
-const KINDS: [(&str, Is); 10] = [
+const KINDS: [(&str, Is); 12] = [
     ("fresh", |state| *state == State::fresh()),
     ("mid-header", |state| (1..8).contains(&state.pending)),
     ("mid-frame", |state| state.pending >= 8),
     ("collecting", |state| has(state, Phase::Collecting)),
     ("waiting", |state| has(state, Phase::Waiting)),
     ("running", |state| has(state, Phase::Running)),
+    ("draining", |state| has(state, Phase::Draining)),
     ("all slots used", |state| {
         state.slots.iter().all(|slot| slot.phase != Phase::Free)
     }),
     ("collecting in mid-frame", |state| {
         has(state, Phase::Collecting) && state.pending > 0
+    }),
+    ("draining in mid-frame", |state| {
+        has(state, Phase::Draining) && state.pending > 0
     }),
     ("dead", |state| state.dead != 0),
     ("dead with requests", |state| {

@@ -11,6 +11,7 @@ use lib.Dec.{leb}
 use borrow.Author.Tests.{eq-eqb, ne-eqb, leb-true, le-leb}
 use Rattle.buffer.specs.Bytes.{write}
 use Rattle.buffer.proofs.WriteLaws.{own-part, write-none}
+use Rattle.requests.specs.declared.Phase.the-variants.{Waiting}
 use Rattle.requests.specs.declared.Slot.{Slot}
 use Rattle.requests.specs.Phases.{freeSlot}
 use Rattle.frame.specs.declared.Header.{Header}
@@ -26,7 +27,7 @@ use Rattle.rules.proofs.RuleLaws.{passed, in-range}
 use Rattle.rules.proofs.StageLaws.{no-other, rest-more, rest-whole, rest-other, all-head, all-rest, check-range}
 use Rattle.session.specs.Session.{Feed}
 use Rattle.channel.specs.declared.Channel.{Channel}
-use Rattle.requests.specs.Slots.{collected, dataSlot}
+use Rattle.requests.specs.Slots.{inPhase, collected, dataSlot}
 use Rattle.channel.specs.Receiver.{Receiver, slotAt, placeOf, lowestFree, target, commandLength, command, placed, streamOpen, viewOf, refused, refusedWork, commandSlot, slotsAfter, streamsAfter, accepted, judge}
 use Rattle.channel.specs.Channel.{fedWith}
 use Rattle.channel.specs.Steps.{putFrom, stepped, judgedInto, metOf, HasFrame, Passed, refusedWith, acceptedWith}
@@ -116,7 +117,7 @@ module _ {s : Channel} {w : List ℕ} (g : HasFrame s w) (count : length (s .slo
   unfolding commandLength placeOf lowestFree slotAt target frameOf isNew headerOf
   size-same = rw payload-length
 
-  accepts : (i : ℕ) (x : Slot) (work new : List ℕ) → firstBroken rules f v ≡ 0 → slotsAfter s f ≡ set (s .slots) i x → cond (isCommand f) (placed s f w) w ≡ work → recordWith f (command s f w) ≡ new
+  accepts : (i : ℕ) (x : Slot) (work new : List ℕ) → firstBroken rules f v ≡ 0 → slotsAfter s f ≡ set (s .slots) i x → cond (isCommand f) (placed s f w) w ≡ work → recordWith f v ≡ new
       → goal ≡ fedWith (acceptedWith s h i x (length new)) work (write out done new)
   unfolding accepted streamsAfter frameOf ends
   accepts i x work new z a b c = judged-zero z ∙ rw (a, b, c, g .live)
@@ -146,7 +147,7 @@ module _ {s : Channel} {w : List ℕ} (g : HasFrame s w) (count : length (s .slo
           ap (λ (n : ℕ). take (m .held + n) (drop (partStart (m .target)) placedIn)) (sym payload-length)
           ∙ own-part w (partStart (m .target)) (m .held) payload (omega (arith, payload-length))
 
-      accepts-command : (new : List ℕ) → firstBroken rules f v ≡ 0 → recordWith f (command s f w) ≡ new
+      accepts-command : (new : List ℕ) → firstBroken rules f v ≡ 0 → recordWith f v ≡ new
           → goal ≡ fedWith (acceptedWith s h (m .target) (collected (framed h []) size) (length new)) placedIn (write out done new)
       unfolding slotsAfter commandSlot placed placeOf lowestFree slotAt target frameOf isNew isMore dataFollows headerOf
       accepts-command new z = accepts (m .target) (collected (framed h []) size) placedIn new z slots-same work-same
@@ -174,7 +175,7 @@ module _ {s : Channel} {w : List ℕ} (g : HasFrame s w) (count : length (s .slo
 
         pub answers-command : checkOf (command s f w) ≡ 0 → let new = requestRecord 1 (h .request) (commandByte (dataFollows (framed h [])) (command s f w)) (command s f w) in
             goal ≡ fedWith (acceptedWith s h (m .target) (collected (framed h []) size) (length new)) placedIn (write out done new)
-        unfolding isMore frameOf recordWith dataFollows
+        unfolding isMore frameOf recordWith dataFollows viewOf
         answers-command c = accepts-command (requestRecord 1 (h .request) (commandByte (dataFollows (framed h [])) (command s f w)) (command s f w)) (all-check ∙ c) (rw (is-command, q))
 
     -- ---- data or settings
@@ -202,19 +203,26 @@ module _ {s : Channel} {w : List ℕ} (g : HasFrame s w) (count : length (s .slo
       work-stays : cond (isCommand f) (placed s f w) w ≡ w
       work-stays = rw no-command
 
-      pub answers-data : number ≡ 0 → h .kind ≡ 2 → let new = requestRecord 2 (h .request) (bit (isLast (framed h []))) payload in
+      -- data, by the record that it gives
+      is-data : h .kind ≡ 2 → isType 2 f ≡ true
+      unfolding isType frameOf
+      is-data k = eq-eqb (h .kind) 2 k
+
+      takes-data : (new : List ℕ) → number ≡ 0 → h .kind ≡ 2 → recordWith f v ≡ new
+          → goal ≡ fedWith (acceptedWith s h (m .place) (dataSlot (slotAt s (m .place)) (framed h [])) (length new)) w (write out done new)
+      unfolding slotsAfter dataSlot placeOf slotAt frameOf isLast headerOf
+      takes-data new z k = accepts (m .place) (dataSlot (slotAt s (m .place)) (framed h [])) w new (all-last ∙ z) (rw (no-command, is-data k)) work-stays
+
+      pub answers-data : number ≡ 0 → h .kind ≡ 2 → inPhase Waiting (slotAt s (m .place)) ≡ true → let new = requestRecord 2 (h .request) (bit (isLast (framed h []))) payload in
           goal ≡ fedWith (acceptedWith s h (m .place) (dataSlot (slotAt s (m .place)) (framed h [])) (length new)) w (write out done new)
-      unfolding slotsAfter recordWith dataSlot placeOf slotAt frameOf isType isLast headerOf
-      answers-data z k = accepts (m .place) (dataSlot (slotAt s (m .place)) (framed h [])) w (requestRecord 2 (h .request) (bit (isLast (framed h []))) payload) (all-last ∙ z) slots-same work-stays new-same
-        where
-          is-data : isType 2 f ≡ true
-          is-data = eq-eqb (h .kind) 2 k
+      unfolding recordWith viewOf placeOf slotAt frameOf isLast headerOf
+      answers-data z k waits = takes-data (requestRecord 2 (h .request) (bit (isLast (framed h []))) payload) z k (rw (no-command, is-data k, waits))
 
-          slots-same : slotsAfter s f ≡ set (s .slots) (m .place) (dataSlot (slotAt s (m .place)) (framed h []))
-          slots-same = rw (no-command, is-data)
-
-          new-same : recordWith f (command s f w) ≡ requestRecord 2 (h .request) (bit (isLast (framed h []))) payload
-          new-same = rw (no-command, is-data)
+      -- of a request that does not wait, though rule 27 lets it pass
+      pub answers-drain : number ≡ 0 → h .kind ≡ 2 → inPhase Waiting (slotAt s (m .place)) ≡ false
+          → goal ≡ fedWith (acceptedWith s h (m .place) (dataSlot (slotAt s (m .place)) (framed h [])) 0) w out
+      unfolding recordWith viewOf placeOf slotAt frameOf headerOf
+      answers-drain z k drains = takes-data [] z k (rw (no-command, is-data k, drains)) ∙ rw (write-none out done)
 
       pub answers-settings : number ≡ 0 → (h .kind ≡ 2 → ⊥) → goal ≡ fedWith (acceptedWith s h 8 freeSlot 0) w out
       unfolding slotsAfter recordWith isType frameOf
@@ -226,5 +234,5 @@ module _ {s : Channel} {w : List ℕ} (g : HasFrame s w) (count : length (s .slo
           slots-same : slotsAfter s f ≡ set (s .slots) 8 freeSlot
           slots-same = rw (no-command, no-data) (sym (set-out (s .slots) 8 freeSlot (omega (arith, count))))
 
-          new-same : recordWith f (command s f w) ≡ []
+          new-same : recordWith f v ≡ []
           new-same = rw (no-command, no-data)

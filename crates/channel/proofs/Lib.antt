@@ -1,5 +1,6 @@
 -- Laws of the definitions, from the bottom up.
 pub mod Handed
+pub mod PhaseLaws
 pub mod SlotLaws
 pub mod ReceiverLaws
 pub mod JudgeLaws

@@ -9,7 +9,7 @@ use lib.Seq.{getD-set-other}
 use lib.Dec.{leb, ltb, eqb}
 use borrow.Author.Tests.{eqb-true, eqb-false, eq-eqb, ne-eqb, leb-true, leb-false, le-leb, ltb-true, ltb-false, lt-ltb}
 use Rattle.requests.specs.declared.Phase.{Phase}
-use Rattle.requests.specs.declared.Phase.the-variants.{Free, Collecting, Waiting, Running}
+use Rattle.requests.specs.declared.Phase.the-variants.{Free, Collecting, Waiting, Running, Draining}
 use Rattle.requests.specs.declared.Slot.{Slot}
 use Rattle.channel.specs.declared.Channel.{Channel}
 use Rattle.frame.specs.Limits.{maxPayload, maxCommand, slotCount, longestRecord, frameArea, workArea, partStart}
@@ -19,14 +19,15 @@ use Rattle.frame.specs.Records.{recordOf, two, bit}
 use Rattle.session.specs.Session.{Step}
 use Rattle.session.specs.Demand3.{Keeps}
 use Rattle.session.proofs.Laws.{not-zero}
-use Rattle.channel.specs.Receiver.{Receiver, slotAt, placeOf, slotOf, lowestFree, target, commandLength, placed, command, refused, refusedWork, commandSlot, slotsAfter, accepted, judge, put, isWhole, tooLong, counted, takeByte, freed, finishState, finish, viewOf}
-use Rattle.requests.specs.Slots.{inPhase, isId, slotFits, idIn, slotsFit, usedCount, enter, dataSlot}
-use Rattle.requests.specs.Phases.{freeSlot, isPhase, code}
+use Rattle.channel.specs.Receiver.{Receiver, slotAt, placeOf, slotOf, lowestFree, target, commandLength, placed, command, refused, refusedWork, commandSlot, slotsAfter, accepted, judge, put, isWhole, tooLong, counted, takeByte, withFinished, finishState, finish, viewOf}
+use Rattle.requests.specs.Slots.{inPhase, isId, slotFits, idIn, slotsFit, usedCount, enter, dataSlot, finishSlot}
+use Rattle.requests.specs.Phases.{freeSlot, isPhase, takesData, canFinish, code}
 use Rattle.channel.specs.Channel.{deadFits, plainShape, heldShape, shape, channel}
 use Rattle.channel.specs.Steps.{CountRight}
 use Rattle.rules.specs.Rules.{commandByte, recordWith, firstBroken, isCommand, rules}
 use Rattle.rules.proofs.Bools.{and-l, and-r, and-i, and-no, or-r, no-not, no-is, clash, by-cond}
 use Rattle.channel.proofs.SlotLaws.{found, inside, each-fits, set-fits, same-id, of-id}
+use Rattle.channel.proofs.PhaseLaws.{used, takes-used}
 use Rattle.rules.proofs.RuleLaws.{numbered, precedes, passed, in-range}
 use Rattle.buffer.proofs.WriteLaws.{length-write}
 
@@ -169,11 +170,6 @@ module _ (r : Receiver) (b : ℕ) (k : Ok r) (short : tooLong (put r b) ≡ fals
 
 -- ---- a whole frame
 
--- a slot that is in a phase other than free is not free
-pub used : (p : Phase) (x : Slot) → eqb (code p) 0 ≡ false → inPhase p x ≡ true → inPhase Free x ≡ false
-unfolding isPhase code
-used p x n e = ne-eqb (code (x .phase)) 0 (λ q. eqb-false (code p) 0 n (sym (eqb-true (code (x .phase)) (code p) e) ∙ q))
-
 command-fits : (id n : ℕ) (m d : Bool) → isEven id ≡ false → n ≤ maxCommand
     → slotFits (record { id = id; phase = cond m Collecting (cond d Waiting Running); databit = d; length = cond m n 0 }) ≡ true
 unfolding slotFits
@@ -181,20 +177,52 @@ command-fits id n true d e l = and-i (not (isEven id)) (leb n maxCommand) (no-is
 command-fits id n false true e l = and-i (not (isEven id) && true) true (and-i (not (isEven id)) true (no-is (isEven id) e) refl) refl
 command-fits id n false false e l = and-i (not (isEven id)) true (no-is (isEven id) e) refl
 
-running-fits : (id n : ℕ) (p : Phase) (d : Bool) → slotFits (record { id = id; phase = p; databit = d; length = n }) ≡ true → eqb (code p) 2 ≡ true
-    → slotFits (record { id = id; phase = Running; databit = d; length = n }) ≡ true
+-- what a slot holds for which data is taken
+holds-none : (id n : ℕ) (p : Phase) (d : Bool) → slotFits (record { id = id; phase = p; databit = d; length = n }) ≡ true → (eqb (code p) 2 || eqb (code p) 4) ≡ true
+    → (not (isEven id) && d && eqb n 0) ≡ true
 unfolding slotFits code
-running-fits id n Free d e w = absurd (false≢true w)
-running-fits id n Collecting d e w = absurd (false≢true w)
-running-fits id n Running d e w = e
-running-fits id n Waiting d e w =
-    and-i (not (isEven id)) (eqb n 0) (and-l (not (isEven id)) d (and-l (not (isEven id) && d) (eqb n 0) e)) (and-r (not (isEven id) && d) (eqb n 0) e)
+holds-none id n Free d e w = absurd (false≢true w)
+holds-none id n Collecting d e w = absurd (false≢true w)
+holds-none id n Running d e w = absurd (false≢true w)
+holds-none id n Waiting d e w = e
+holds-none id n Draining d e w = e
 
--- a waiting slot after a data frame fits, and its id, if active, is still its own
-data-fits : (x : Slot) (l : Bool) → slotFits x ≡ true → inPhase Waiting x ≡ true → (slotFits (cond l (enter Running x) x) ≡ true) × (isId (cond l (enter Running x) x .id) x ≡ true)
-unfolding isPhase code enter
-data-fits x true e w = (running-fits (x .id) (x .length) (x .phase) (x .databit) e w, of-id x (used Waiting x refl w))
-data-fits x false e w = (e, of-id x (used Waiting x refl w))
+-- it can run, and drain
+can-enter : (x : Slot) → slotFits x ≡ true → takesData (x .phase) ≡ true → (slotFits (enter Running x) ≡ true) × (slotFits (enter Draining x) ≡ true)
+unfolding slotFits isPhase code enter
+can-enter x e w =
+    let odd = not (isEven (x .id)) in
+    let k = holds-none (x .id) (x .length) (x .phase) (x .databit) e w in
+    (and-i odd (eqb (x .length) 0) (and-l odd (x .databit) (and-l (odd && x .databit) (eqb (x .length) 0) k)) (and-r (odd && x .databit) (eqb (x .length) 0) k), k)
+
+free-fits : slotFits freeSlot ≡ true
+unfolding slotFits
+free-fits = refl
+
+-- a slot that fits in the place of another: if it is used, it has the other's id
+pub record Follows (x y : Slot) : Type 0 where
+  pub fits : slotFits y ≡ true
+  pub same : inPhase Free y ≡ false → isId (y .id) x ≡ true
+
+follows-free : (x : Slot) → Follows x freeSlot
+unfolding isPhase code
+follows-free x = record { fits = free-fits; same = λ u. clash refl u }
+
+pub data-fits : (x : Slot) (f : Frame) → slotFits x ≡ true → takesData (x .phase) ≡ true → Follows x (dataSlot x f)
+unfolding dataSlot enter
+data-fits x f e w =
+    by-cond (Follows x) (isLast f) (cond (inPhase Draining x) freeSlot (enter Running x)) x
+    (λ _. by-cond (Follows x) (inPhase Draining x) freeSlot (enter Running x)
+    (λ _. follows-free x)
+    (λ _. record { fits = can-enter x e w .0; same = λ _. of-id x (takes-used (x .phase) w) }))
+    (λ _. record { fits = e; same = λ _. of-id x (takes-used (x .phase) w) })
+
+pub finish-fits : (x : Slot) → slotFits x ≡ true → Follows x (finishSlot x)
+unfolding finishSlot enter code
+finish-fits x e =
+    by-cond (Follows x) (inPhase Waiting x) (enter Draining x) freeSlot
+    (λ w. record { fits = can-enter x e (rw w) .1; same = λ _. of-id x (used Waiting (x .phase) refl w) })
+    (λ _. follows-free x)
 
 -- a command frame that passed 20, 21 and 23 has a slot, and room in the slot's part
 pub room-of : (s : Channel) (f : Frame) (w : List ℕ) → length (s .slots) ≡ slotCount → numbered rules 20 f (viewOf s f w) ≡ false → numbered rules 21 f (viewOf s f w) ≡ false
@@ -211,7 +239,7 @@ room-of s f w count e20 e21 e23 c = (place (isNew f) refl, ltb-false maxCommand 
         let p : inPhase Collecting (slotOf s (f .request)) ≡ true =
         no-not (inPhase Collecting (slotOf s (f .request)))
         (and-no (isCommand f && not (isNew f)) (not (inPhase Collecting (slotOf s (f .request)))) e21 (and-i (isCommand f) (not (isNew f)) c (no-is (isNew f) q))) in
-        let l : placeOf s (f .request) < length (s .slots) = inside (s .slots) (placeOf s (f .request)) (used Collecting (slotOf s (f .request)) refl p) in
+        let l : placeOf s (f .request) < length (s .slots) = inside (s .slots) (placeOf s (f .request)) (used Collecting (slotOf s (f .request) .phase) refl p) in
         omega (arith, count)
 
 module _ (s : Channel) (f : Frame) (w : List ℕ) (wide : workArea ≤ length w) (count : length (s .slots) ≡ slotCount) (fit : slotsFit (s .slots) ≡ true) where
@@ -265,20 +293,20 @@ module _ (s : Channel) (f : Frame) (w : List ℕ) (wide : workArea ≤ length w)
             (same-id (f .request) (getD (s .slots) (placeOf s (f .request)) freeSlot) at .0)
         go false q = at
 
-    pub waits : isType 2 f ≡ true → inPhase Waiting (slotOf s (f .request)) ≡ true
+    pub takes : isType 2 f ≡ true → takesData (slotOf s (f .request) .phase) ≡ true
     unfolding rules viewOf
-    waits t = no-not (inPhase Waiting (slotOf s (f .request))) (and-no (isType 2 f) (not (inPhase Waiting (slotOf s (f .request)))) (passed f (viewOf s f w) rules 27 0 refl e) t)
+    takes t = no-not (takesData (slotOf s (f .request) .phase)) (and-no (isType 2 f) (not (takesData (slotOf s (f .request) .phase))) (passed f (viewOf s f w) rules 27 0 refl e) t)
 
     slots-fit : slotsFit (slotsAfter s f) ≡ true
-    unfolding slotsAfter commandSlot dataSlot rules slotAt viewOf
+    unfolding slotsAfter commandSlot rules slotAt viewOf
     slots-fit =
         by-cond (λ l. slotsFit l ≡ true) (isCommand f) (set (s .slots) (target s f) (commandSlot s f))
         (cond (isType 2 f) (set (s .slots) (placeOf s (f .request)) (dataSlot (slotOf s (f .request)) f)) (s .slots))
         (λ c. set-fits (s .slots) (target s f) (commandSlot s f) fit
         (command-fits (f .request) (commandLength s f) (isMore f) (dataFollows f) odd (room 0 refl refl refl c e .1)) (λ u k. mine c k))
         (λ _. by-cond (λ l. slotsFit l ≡ true) (isType 2 f) (set (s .slots) (placeOf s (f .request)) (dataSlot (slotOf s (f .request)) f)) (s .slots)
-        (λ t. let d = data-fits (slotOf s (f .request)) (isLast f) (each-fits (s .slots) (placeOf s (f .request)) fit) (waits t) in
-        set-fits (s .slots) (placeOf s (f .request)) (dataSlot (slotOf s (f .request)) f) fit (d .0) (λ u k. d .1))
+        (λ t. let d = data-fits (slotOf s (f .request)) f (each-fits (s .slots) (placeOf s (f .request)) fit) (takes t) in
+        set-fits (s .slots) (placeOf s (f .request)) (dataSlot (slotOf s (f .request)) f) fit (d .fits) (λ u k. d .same u))
         (λ _. fit))
 
     slots-count : length (slotsAfter s f) ≡ slotCount
@@ -298,16 +326,19 @@ module _ (s : Channel) (f : Frame) (w : List ℕ) (wide : workArea ≤ length w)
     accepted-ok d = record { work = accepted-wide; count = slots-count; pending = omega arith; slots = slots-fit; dead = rw d; active = refl; held = refl }
 
     -- the record is no longer than the longest
-    record-bound : length (f .payload) ≤ maxPayload → length (recordWith f (command s f w)) ≤ longestRecord
+    record-bound : length (f .payload) ≤ maxPayload → length (recordWith f (viewOf s f w)) ≤ longestRecord
     unfolding recordWith recordOf command rules commandLength viewOf
     record-bound l =
         by-cond (λ v. length v ≤ longestRecord) (isCommand f && not (isMore f)) (recordOf 1 (two (f .request) ++ commandByte (dataFollows f) (command s f w) ∷ command s f w))
-        (cond (isType 2 f) (recordOf 2 (two (f .request) ++ bit (isLast f) ∷ f .payload)) [])
+        (cond (isType 2 f && waiting) (recordOf 2 (two (f .request) ++ bit (isLast f) ∷ f .payload)) [])
         (λ c.
         let a : slotAt s (target s f) .length + length (f .payload) ≤ maxCommand = room 0 refl refl refl (and-l (isCommand f) (not (isMore f)) c) e .1 in
         let held : List ℕ = drop (partStart (target s f)) w in
         omega (arith, length-append (take (slotAt s (target s f) .length) held) (f .payload), length-take (slotAt s (target s f) .length) held))
-        (λ _. by-cond (λ v. length v ≤ longestRecord) (isType 2 f) (recordOf 2 (two (f .request) ++ bit (isLast f) ∷ f .payload)) [] (λ _. omega arith) (λ _. omega arith))
+        (λ _. by-cond (λ v. length v ≤ longestRecord) (isType 2 f && waiting) (recordOf 2 (two (f .request) ++ bit (isLast f) ∷ f .payload)) [] (λ _. omega arith) (λ _. omega arith))
+      where
+        waiting : Bool
+        waiting = inPhase Waiting (slotOf s (f .request))
 
 -- ---- one byte
 
@@ -418,24 +449,28 @@ quiet r b o = go (r .state .dead) refl
 
 -- ---- finish
 
-freed-ok : (r : Receiver) (id : ℕ) → Ok r → Ok (record { state = freed (r .state) id; work = r .work })
-unfolding freed heldShape slotFits isPhase code
-freed-ok r id k = record {
-  work = k .work;
-  count = rw length-set (k .count);
-  pending = k .pending;
-  slots = set-fits (r .state .slots) (placeOf (r .state) id) freeSlot (k .slots) refl (λ u h. clash refl u);
-  dead = k .dead;
-  active = refl;
-  held = k .held;
-}
+finished-ok : (r : Receiver) (id : ℕ) → Ok r → Ok (record { state = withFinished (r .state) id; work = r .work })
+unfolding withFinished heldShape slotAt
+finished-ok r id k =
+    let xs = r .state .slots in
+    let i = placeOf (r .state) id in
+    let d = finish-fits (getD xs i freeSlot) (each-fits xs i (k .slots)) in
+    record {
+      work = k .work;
+      count = rw length-set (k .count);
+      pending = k .pending;
+      slots = set-fits xs i (finishSlot (getD xs i freeSlot)) (k .slots) (d .fits) (λ u h. d .same u);
+      dead = k .dead;
+      active = refl;
+      held = k .held;
+    }
 
 pub finish-ok : (r : Receiver) (id : ℕ) → Ok r → Ok (finish r id .next)
 unfolding finish finishState
-finish-ok r id k = go (r .state .dead) (inPhase Running (slotOf (r .state) id)) refl refl
+finish-ok r id k = go (r .state .dead) (canFinish (slotOf (r .state) id .phase)) refl refl
   where
-    go : (n : ℕ) (t : Bool) → r .state .dead ≡ n → inPhase Running (slotOf (r .state) id) ≡ t → Ok (finish r id .next)
-    go zero true d t = rw (d, t, finishState) (freed-ok r id k)
+    go : (n : ℕ) (t : Bool) → r .state .dead ≡ n → canFinish (slotOf (r .state) id .phase) ≡ t → Ok (finish r id .next)
+    go zero true d t = rw (d, t, finishState) (finished-ok r id k)
     go zero false d t = rw (d, t, finishState) k
     go (suc n) t d l = rw (d, finishState) k
 

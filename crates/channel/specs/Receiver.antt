@@ -4,13 +4,13 @@ use mathlib.Core.Bool.{Bool, true, false, cond, _&&_, not}
 use mathlib.Core.List.{List, [], _++_}
 use lib.ListN.{length, take, drop, getD, set, replicate}
 use lib.Dec.{leb, eqb}
-use Rattle.requests.specs.declared.Phase.the-variants.{Free, Running}
+use Rattle.requests.specs.declared.Phase.the-variants.{Free}
 use Rattle.requests.specs.declared.Slot.{Slot}
-use Rattle.requests.specs.Slots.{inPhase, firstSlot, isId, usedCount, collected, dataSlot}
+use Rattle.requests.specs.Slots.{inPhase, firstSlot, isId, usedCount, collected, dataSlot, finishSlot}
 use Rattle.channel.specs.declared.Channel.{Channel}
 use Rattle.frame.specs.Limits.{slotCount, streamCount, partStart}
 use Rattle.session.specs.Session.{Step, Reply}
-use Rattle.requests.specs.Phases.{freeSlot}
+use Rattle.requests.specs.Phases.{canFinish, freeSlot}
 use Rattle.rules.specs.Rules.{View, isCommand, overlong, rules, firstBroken, recordWith}
 use Rattle.buffer.specs.Bytes.{write}
 use Rattle.frame.specs.Frame.{Frame, frameOf, ends, isType, isNew}
@@ -119,7 +119,7 @@ accepted s f w = record {
     state = withStreams (withSlots (withPending s 0) (slotsAfter s f)) (streamsAfter s f);
     work = cond (isCommand f) (placed s f w) w;
   };
-  adds = recordWith f (command s f w);
+  adds = recordWith f (viewOf s f w);
 }
 
 unfoldable pub judge : Channel → Frame → List ℕ → Step Receiver
@@ -153,15 +153,16 @@ takeByte r b = elim (r .state .dead) [ zero ↦ counted (put r b) | suc n ↦ re
 
 -- ---- finish
 
-unfoldable pub freed : Channel → ℕ → Channel
-freed s id = withSlot s (placeOf s id) freeSlot
+-- an id's slot after a finish that is accepted
+unfoldable pub withFinished : Channel → ℕ → Channel
+withFinished s id = withSlot s (placeOf s id) (finishSlot (slotOf s id))
 
 -- on the state alone: finish has no work area
 unfoldable pub finishState : Channel → ℕ → Reply Channel
 finishState s id =
     elim (s .dead) [
       | suc n ↦ record { next = s; number = suc n }
-      | zero ↦ elim (inPhase Running (slotOf s id)) [ true ↦ record { next = freed s id; number = 0 } | false ↦ record { next = s; number = 4 } ]
+      | zero ↦ elim (canFinish (slotOf s id .phase)) [ true ↦ record { next = withFinished s id; number = 0 } | false ↦ record { next = s; number = 4 } ]
     ]
 
 unfoldable pub finish : Receiver → ℕ → Reply Receiver

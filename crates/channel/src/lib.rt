@@ -2,6 +2,7 @@
 mod feed;
 
 use frame::Header;
+use requests::Phase;
 use requests::Slot;
 use requests::Want;
 use rules::Met;
@@ -107,7 +108,8 @@ impl Channel {
         }
     }
 
-    // The owner's finish of a request: 3, the dead number, 4, or 0 and the slot is free.
+    // The owner's finish of a request: 3, the dead number, 4, or 0. Then the slot of a request that ran is free, and one that waited for
+    // data drains.
     pub fn finish(self, id: u16) -> Finished
         ensures { λ r. ⌜ r ≡ finished (finishOf self id) ⌝ }
     {
@@ -121,8 +123,8 @@ impl Channel {
         let i = requests::find(slots, Want::Used(id));
         let x = requests::slot_at(slots, i);
         let phase = x.phase;
-        if requests::phase_code(phase) == 3 {
-            let next = self.with_slot(i, Slot::free());
+        if requests::can_finish(phase) {
+            let next = self.with_slot(i, requests::finish_slot(x));
             return next.finished(0);
         }
         self.finished(4)
@@ -220,7 +222,7 @@ impl Channel {
         self.accepted(h, target, x, written)
     }
 
-    // Data or settings that rules 12 to 23 let pass.
+    // Data or settings that rules 12 to 23 let pass. Data of a request that drains gives no record.
     fn other(self, h: Header, m: Met, work: &[u8], out: &mut [u8], done: usize) -> Fed
         requires { ⌜ (h .kind ≡ 1 → ⊥) × Passed self h m (now work) ⌝ }
         ensures { λ r. ⌜ fedWith r (now (work .entry)) (now (out .exit)) ≡ judgedInto (now (out .entry)) done self (now (work .entry)) ⌝ }
@@ -234,6 +236,10 @@ impl Channel {
             let slots = self.slots;
             let x = requests::slot_at(slots, m.place);
             let y = requests::data_slot(x, h);
+            let phase = x.phase;
+            if !requests::is_phase(Phase::Waiting, phase) {
+                return self.accepted(h, m.place, y, 0);
+            }
             let third = frame::bit(h.is_last());
             let written = frame::put_record(out, done, 2, h.request, third, &work[8..end]);
             return self.accepted(h, m.place, y, written);

@@ -2,7 +2,7 @@
 -- Assumes nothing.
 use Prim.Native.Nat.{ℕ, zero, suc, _+_, _/_, _≤_, _<_}
 use mathlib.Core.Path.{_≡_, refl, sym, ap, _∙_, subst}
-use mathlib.Core.Bool.{Bool, true, false, _&&_}
+use mathlib.Core.Bool.{Bool, true, false, _&&_, _||_}
 use mathlib.Core.List.{List, [], _∷_, _++_, map}
 use native.Mathlib.Omega.{arith}
 use native.Mathlib.Nat.{suc-inj}
@@ -10,32 +10,33 @@ use lib.ListN.{length, take, getD, replicate}
 use lib.Dec.{ltb, eqb}
 use borrow.Author.Tests.{eqb-true, ltb-true}
 use Rattle.channel.specs.declared.Channel.{Channel}
-use Rattle.requests.specs.declared.Phase.the-variants.{Free, Running}
+use Rattle.requests.specs.declared.Phase.the-variants.{Free, Waiting, Running, Draining}
+use Rattle.requests.specs.declared.Slot.{Slot}
 use Rattle.frame.specs.Limits.{maxPayload, streamCount, workArea}
 use Rattle.session.specs.Session.{Step, Reply, Call, Event, took, asked, Outcome, fed, answered, uncut, events, feeds, owns, feed, own}
-use Rattle.frame.specs.Frame.{Frame, frameOf, isNew}
+use Rattle.frame.specs.Frame.{Frame, frameOf, isType, isNew, isLast}
 use Rattle.frame.specs.Header.{lengthOf}
 use Rattle.frame.specs.Records.{bit}
-use Rattle.demands.specs.Request.{idle}
-use Rattle.requests.specs.Phases.{isPhase, code}
+use Rattle.demands.specs.Request.{idle, isIn}
+use Rattle.requests.specs.Phases.{isPhase, canFinish, code}
 use Rattle.channel.specs.Receiver
-use Rattle.channel.specs.Receiver.{Receiver, freshState, refused, accepted, judge, put, isWhole, tooLong, counted, takeByte, finishState, slotOf, freed, viewOf}
+use Rattle.channel.specs.Receiver.{Receiver, freshState, refused, slotsAfter, accepted, judge, put, isWhole, tooLong, counted, takeByte, finishState, slotOf, withFinished, viewOf}
 use Rattle.requests.specs.Slots.{inPhase, usedCount}
 use Rattle.channel.specs.Channel.{channel}
 use Rattle.demands.specs.Demands.{freshOn, Agree, Fed, nil, bytes, ends, Demand2, Demand2Session, ActiveCount, NextFrame}
-use Rattle.demands.specs.History.{History, frame, finish, newFrames, finishes, streamOpen, itemsOf, stands, request, isIn, refusalOf, answerTo, isLong, isAll, Past, nothing, stopped, frameAfter, bytesAfter, byteAfter, finishAfter, told, Sent, none, byte, call, given}
+use Rattle.demands.specs.History.{History, frame, finish, newFrames, finishes, drainsEnded, endsDrain, IsCount, streamOpen, itemsOf, stands, request, refusalOf, answerTo, isLong, isAll, Past, nothing, stopped, frameAfter, bytesAfter, byteAfter, finishAfter, told, Sent, none, byte, call, given}
 use Rattle.rules.specs.Rules.{isCommand, firstBroken, rules}
 use Rattle.rules.proofs.Bools.{clash, fails, and-l, and-r}
 use Rattle.session.proofs.Laws as Laws
 use Rattle.channel.proofs.ReceiverLaws.{Ok, take-ok, finish-ok, take-live, keeps}
-use Rattle.demands.proofs.SeenLaws.{never, Finished, ended, stays, finish-cases, fresh-ok, fresh-idle}
+use Rattle.demands.proofs.SeenLaws.{never, Finished, taken, stays, finish-cases, fresh-ok, fresh-idle}
 use Rattle.demands.proofs.HistoryLaws.{Says, phase-is, same-number, same-record, says-after, says-put, says-finish}
 use Rattle.demands.proofs.ActiveLaws.{grows, shrinks}
 use Rattle.demands.proofs.CutLaws.{Under, under-none, under-put, same-long, same-whole, same-frame, small-stream, small-request}
 
--- The count and the finishes accepted are together the new frames accepted.
+-- The receiver's count is the history's.
 abbrev Counted : History → Receiver → Type 0
-Counted h r = r .state .active + finishes h ≡ newFrames h
+Counted h r = IsCount (r .state .active) h
 
 -- A live receiver holds what the history and the first bytes of the frame under way say.
 pub record Holds (h : History) (bs : List ℕ) (r : Receiver) : Type 0 where
@@ -90,7 +91,7 @@ finish-dead r j n e = ap (λ (a : Reply Channel). record { next = record { state
     (on-suc (r .state .dead) n rest (λ k. record { next = r .state; number = suc k }) e)
   where
     rest : Reply Channel
-    rest = elim (inPhase Running (slotOf (r .state) j)) [ true ↦ record { next = freed (r .state) j; number = 0 } | false ↦ record { next = r .state; number = 4 } ]
+    rest = elim (canFinish (slotOf (r .state) j .phase)) [ true ↦ record { next = withFinished (r .state) j; number = 0 } | false ↦ record { next = r .state; number = 4 } ]
 
 abbrev asking : Past → ℕ → Reply Past
 asking t j = record { next = record { number = 0; deeds = finish j ∷ t .deeds; under = t .under }; number = answerTo (t .deeds) j }
@@ -131,12 +132,18 @@ module _ (t : Past) (r : Receiver) (b : ℕ) (small : b < 256) (m : Holds (t .de
   unfolding put
   put-counted = m .counted
 
+  -- a drain ends where the history says so
+  drain-is : (isType 2 f && isLast f && inPhase Draining (slotOf (p .state) (f .request))) ≡ endsDrain h f
+  unfolding endsDrain
+  drain-is = ap (λ (t : Bool). isType 2 f && isLast f && t) (phase-is h p says Draining (f .request))
+
   frame-counted : firstBroken rules f (viewOf (p .state) f (p .work)) ≡ 0 → Counted (frame f ∷ h) (accepted (p .state) f (p .work) .next)
-  unfolding accepted newFrames finishes put
-  frame-counted z = together (grows (p .state) f (p .work) (says .work) (says .count) (says .slots) z)
+  unfolding accepted newFrames finishes drainsEnded put
+  frame-counted z = together (usedCount (slotsAfter (p .state) f)) (rw drain-is at (grows (p .state) f (p .work) (says .work) (says .count) (says .slots) z))
     where
-      together : {n : ℕ} → n ≡ bit (isCommand f && isNew f) + usedCount (r .state .slots) → n + finishes h ≡ bit (isCommand f && isNew f) + newFrames h
-      together k = omega (arith, k, m .counted, m .ok .active)
+      together : (n : ℕ) → n + bit (endsDrain h f) ≡ bit (isCommand f && isNew f) + usedCount (r .state .slots)
+          → n + finishes h + (bit (endsDrain h f) + drainsEnded h) ≡ bit (isCommand f && isNew f) + newFrames h
+      together n k = omega (arith, k, m .counted, m .ok .active)
 
   one-frame : (n : ℕ) → refusalOf h f ≡ n → Ok (judge (p .state) f (p .work) .next) → Steps (frameAfter t f) (judge (p .state) f (p .work))
   unfolding frameAfter judge stopped refused accepted
@@ -178,14 +185,22 @@ one-byte t r b small (live a m) = byte-live t r b small m a
 -- ---- one finish
 
 finish-keeps : (r : Receiver) (j : ℕ) (bs : List ℕ) → Under bs r → (a : Reply Receiver) → Finished r j a → Under bs (a .next)
-unfolding freed
-finish-keeps r j bs u a (ended e) = record { pending = u .pending; held = u .held; small = u .small }
+unfolding withFinished
+finish-keeps r j bs u a (taken e) = record { pending = u .pending; held = u .held; small = u .small }
 finish-keeps r j bs u a (stays e) = u
 
 finish-counted : (h : History) (r : Receiver) (j : ℕ) → Says h r → Ok r → Counted h r → (a : Reply Receiver) → Finished r j a → Counted (finish j ∷ h) (a .next)
-unfolding freed newFrames finishes answerTo bit
-finish-counted h r j m k c a (ended e) = rw (sym (phase-is h r m Running j) ∙ e) (omega (arith, c, k .active, shrinks (r .state) j e))
-finish-counted h r j m k c a (stays e) = rw (sym (phase-is h r m Running j) ∙ e) (omega (arith, c))
+unfolding withFinished newFrames finishes drainsEnded bit
+finish-counted h r j m k c a (taken e) = rw (← phase-is h r m Running j) (omega (arith, c, k .active, shrinks (r .state) j e))
+finish-counted h r j m k c a (stays e) = go (inPhase Waiting x) (inPhase Running x) e (phase-is h r m Running j)
+  where
+    x : Slot
+    x = slotOf (r .state) j
+
+    go : (w t : Bool) → (w || t) ≡ false → t ≡ isIn Running (request h j) → IsCount (r .state .active) (finish j ∷ h)
+    go true t q z = clash refl q
+    go false true q z = clash refl q
+    go false false q z = rw (← z) (omega (arith, c))
 
 one-finish : (t : Past) (r : Receiver) (j : ℕ) → Goes t r → Replies (finishAfter t j) (Receiver.finish r j)
 one-finish t r j (dead n a d c) = rw (asked-dead t j n a, finish-dead r j n d) (dead n a d c, refl)
@@ -232,7 +247,7 @@ unfolding isPhase idle code
 free = refl
 
 fresh-holds : (w : List ℕ) → workArea ≤ length w → Holds [] [] (freshOn w)
-unfolding freshState streamOpen request itemsOf stands newFrames finishes
+unfolding freshState streamOpen request itemsOf stands newFrames finishes drainsEnded
 fresh-holds w l =
     let k : Ok (freshOn w) = fresh-ok w l in
     record {

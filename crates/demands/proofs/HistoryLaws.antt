@@ -9,7 +9,7 @@ use lib.Seq.{getD-set-same, getD-set-other}
 use lib.Dec.{leb, ltb, eqb}
 use borrow.Author.Tests.{eqb-true, eqb-false, eq-eqb}
 use Rattle.requests.specs.declared.Phase.{Phase}
-use Rattle.requests.specs.declared.Phase.the-variants.{Free, Collecting, Waiting, Running}
+use Rattle.requests.specs.declared.Phase.the-variants.{Free, Collecting, Waiting, Running, Draining}
 use Rattle.requests.specs.declared.Slot.{Slot}
 use Rattle.channel.specs.declared.Channel.{Channel}
 use Rattle.frame.specs.Limits.{maxCommand, slotCount, streamCount, frameArea, workArea, partStart}
@@ -18,18 +18,19 @@ use Rattle.rules.specs.Rules.{checkOf, commandByte, recordWith, View, isCommand
 use Rattle.frame.specs.Frame.{Frame, isEven, begins, ends, isType, isNew, isMore, dataFollows, isLast}
 use Rattle.frame.specs.Records.{bit, requestRecord}
 use Rattle.channel.specs.Receiver
-use Rattle.channel.specs.Receiver.{Receiver, slotAt, placeOf, slotOf, lowestFree, target, commandLength, streamsAfter, accepted, put, freed, viewOf}
+use Rattle.channel.specs.Receiver.{Receiver, slotAt, placeOf, slotOf, lowestFree, target, commandLength, streamsAfter, accepted, put, withFinished, viewOf}
 use Rattle.requests.specs.Slots.{inPhase, slotFits, idIn, slotsFit}
-use Rattle.requests.specs.Phases.{freeSlot, isPhase, code}
+use Rattle.requests.specs.Phases.{freeSlot, isPhase, takesData, canFinish, code}
 use Rattle.demands.specs.History
-use Rattle.demands.specs.History.{History, frame, finish, streamOpen, isOf, itemsOf, stands, request, isIn, howMany, idCount, activeIds, own, refusalOf, recordFor, answerTo, viewIn}
-use Rattle.demands.specs.Request.{ending, idle, itemOf, moved, Request}
+use Rattle.demands.specs.History.{History, frame, finish, streamOpen, isOf, itemsOf, stands, request, howMany, idCount, activeIds, own, refusalOf, recordFor, answerTo, viewIn}
+use Rattle.demands.specs.Request.{ending, idle, isIn, enters, itemOf, moved, Request}
 use Rattle.rules.proofs.Bools.{and-l, and-r, and-i, and-no, no-not, not-no, clash, by-cond}
 use Rattle.channel.proofs.SlotLaws.{inside, each-fits}
 use Rattle.rules.proofs.RuleLaws.{passed}
 use Rattle.demands.proofs.CountLaws.{many-ext, none-free, used-many, in-found}
+use Rattle.channel.proofs.PhaseLaws.{used}
 use Rattle.channel.proofs.ReceiverLaws.{Ok, accepted-ok, finish-ok}
-use Rattle.demands.proofs.SeenLaws.{seen, Fresh, fresh-id, held-bytes, short-slot, free-empty, other-frame, own-frame, put-seen, Finished, ended, stays, finish-cases, finish-other, finish-own}
+use Rattle.demands.proofs.SeenLaws.{seen, Fresh, fresh-id, held-bytes, short-slot, free-empty, other-frame, own-frame, put-seen, Finished, taken, stays, finish-cases, finish-other, finish-own}
 
 -- the tables say what the history says; the frame under way plays no part
 pub record Says (h : History) (r : Receiver) : Type 0 where
@@ -146,7 +147,7 @@ module _ (h : History) (r : Receiver) (m : Says h r) where
         next (ap (λ (q : Request). isCommand f && not (isNew f) && not (Bool·beq (dataFollows f) (q .databit))) mine) λ e22.
         next (guard (isCommand f) (ltb maxCommand (commandLength s f)) (ltb maxCommand (length (History.command h f))) (λ c. ap (ltb maxCommand) (length-is (new e19 c)))) λ e23.
         next (judged-is 24 (new e19)) λ e24. next (judged-is 25 (new e19)) λ e25. next (judged-is 26 (new e19)) λ e26.
-        next (ap (λ (q : Request). isType 2 f && not (isIn Waiting q)) mine) λ e27.
+        next (ap (λ (q : Request). isType 2 f && not (takesData (q .phase))) mine) λ e27.
         next refl λ e28. next refl λ e29. none)
       where
         mine : seen (f .request) r ≡ own h f
@@ -156,17 +157,17 @@ module _ (h : History) (r : Receiver) (m : Says h r) where
         new e c n = no-not (inPhase Free (slotOf s (f .request))) (and-no (isCommand f && isNew f) (not (inPhase Free (slotOf s (f .request)))) e (and-i (isCommand f) (isNew f) c n))
 
     module _ (e : firstBroken rules f (viewOf s f w) ≡ 0) where
-      pub same-record : recordWith f (Receiver.command s f w) ≡ recordFor h f
-      unfolding recordFor recordWith
+      pub same-record : recordWith f (viewOf s f w) ≡ recordFor h f
+      unfolding recordFor recordWith viewOf viewIn seen
       same-record =
-          chosen (isCommand f && not (isMore f)) (whole (Receiver.command s f w)) (whole (History.command h f)) other other
-          (λ c. ap whole (command-is (fresh-id s f w (m .work) (m .count) (m .slots) e (and-l (isCommand f) (not (isMore f)) c)))) refl
+          chosen (isCommand f && not (isMore f)) (whole (Receiver.command s f w)) (whole (History.command h f)) (other (seen (f .request) r)) (other (own h f))
+          (λ c. ap whole (command-is (fresh-id s f w (m .work) (m .count) (m .slots) e (and-l (isCommand f) (not (isMore f)) c)))) (ap other (m .requests (f .request)))
         where
           whole : List ℕ → List ℕ
           whole bytes = requestRecord 1 (f .request) (commandByte (dataFollows f) bytes) bytes
 
-          other : List ℕ
-          other = cond (isType 2 f) (requestRecord 2 (f .request) (bit (isLast f)) (f .payload)) []
+          other : Request → List ℕ
+          other q = cond (isType 2 f && isIn Waiting q) (requestRecord 2 (f .request) (bit (isLast f)) (f .payload)) []
 
       odd : isEven (f .stream) ≡ false
       unfolding rules viewOf
@@ -241,24 +242,36 @@ module _ (h : History) (r : Receiver) (j : ℕ) (k : Ok r) (m : Says h r) where
       go false q = finish-other id r j k (eqb-false j id q) t c ∙ m .requests id
 
   narrow-finish : (id : ℕ) → isIn Free (request (finish j ∷ h) id) ≡ false → id < idCount
-  unfolding request itemsOf stands moved isPhase idle code
+  unfolding request itemsOf stands moved isPhase idle code enters
   narrow-finish id =
       by-cond (λ l. isIn Free (stands l) ≡ false → id < idCount) (eqb j id) (ending ∷ itemsOf id h) (itemsOf id h)
-      (λ _. by-cond (λ q. isIn Free q ≡ false → id < idCount) (eqb (code (request h id .phase)) 3) idle (request h id) (λ _ z. clash refl z) (λ _. m .narrow id))
+      (λ _. by-cond Narrow (isIn Waiting q) (enters Draining q) (cond (isIn Running q) idle q)
+      (λ u _. m .narrow id (used Waiting (q .phase) refl u))
+      (λ _. by-cond Narrow (isIn Running q) idle q (λ _ z. clash refl z) (λ _. m .narrow id)))
       (λ _. m .narrow id)
+    where
+      q : Request
+      q = request h id
+
+      Narrow : Request → Type 0
+      Narrow x = isIn Free x ≡ false → id < idCount
 
   abbrev Goes : Reply Receiver → Type 0
   Goes t = (Says (finish j ∷ h) (t .next)) × (t .number ≡ answerTo h j)
 
+  can-is : canFinish (slotOf (r .state) j .phase) ≡ canFinish (request h j .phase)
+  unfolding seen
+  can-is = ap (λ (q : Request). canFinish (q .phase)) (m .requests j)
+
   finished : (t : Reply Receiver) → Finished r j t → Ok (t .next) → Goes t
-  unfolding freed answerTo streamOpen
-  finished t (ended e) o = (
-    record { live = m .live; work = o .work; count = o .count; slots = o .slots; width = m .width; streams = m .streams; requests = requests-finish t (ended e); narrow = narrow-finish },
-    rw (sym (phase-is h r m Running j) ∙ e),
+  unfolding withFinished answerTo streamOpen
+  finished t (taken e) o = (
+    record { live = m .live; work = o .work; count = o .count; slots = o .slots; width = m .width; streams = m .streams; requests = requests-finish t (taken e); narrow = narrow-finish },
+    rw (sym can-is ∙ e),
   )
   finished t (stays e) o = (
     record { live = m .live; work = o .work; count = o .count; slots = o .slots; width = m .width; streams = m .streams; requests = requests-finish t (stays e); narrow = narrow-finish },
-    rw (sym (phase-is h r m Running j) ∙ e),
+    rw (sym can-is ∙ e),
   )
 
   pub says-finish : Goes (Receiver.finish r j)

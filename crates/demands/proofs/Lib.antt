@@ -8,5 +8,6 @@ pub mod CountLaws
 pub mod HistoryLaws
 pub mod CutLaws
 pub mod ActiveLaws
+pub mod Drain
 pub mod Demand2
 pub mod Traces

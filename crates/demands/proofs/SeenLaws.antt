@@ -10,26 +10,27 @@ use lib.Seq.{drop-set-lt}
 use lib.Dec.{leb, ltb, eqb}
 use borrow.Author.Tests.{eqb-true, eq-eqb, leb-true, le-leb, ltb-true, ltb-false}
 use Rattle.requests.specs.declared.Phase.{Phase}
-use Rattle.requests.specs.declared.Phase.the-variants.{Free, Collecting, Waiting, Running}
+use Rattle.requests.specs.declared.Phase.the-variants.{Free, Collecting, Waiting, Running, Draining}
 use Rattle.requests.specs.declared.Slot.{Slot}
 use Rattle.channel.specs.declared.Channel.{Channel}
 use Rattle.frame.specs.Limits.{maxCommand, slotCount, frameArea, workArea, partStart}
 use Rattle.session.specs.Session.{Reply}
 use Rattle.frame.specs.Frame.{Frame, isEven, isType, isNew, isMore, dataFollows, isLast}
 use Rattle.demands.specs.Demands.{freshOn}
-use Rattle.channel.specs.Receiver.{Receiver, freshState, withPending, withSlots, withStreams, slotAt, placeOf, slotOf, lowestFree, target, commandLength, placed, command, commandSlot, slotsAfter, streamsAfter, accepted, put, freed, finishState, finish, viewOf}
+use Rattle.channel.specs.Receiver.{Receiver, freshState, withPending, withSlots, withSlot, withStreams, slotAt, placeOf, slotOf, lowestFree, target, commandLength, placed, command, commandSlot, slotsAfter, streamsAfter, accepted, put, withFinished, finishState, finish, viewOf}
 use Rattle.frame.specs.Records.{bit}
-use Rattle.requests.specs.Slots.{inPhase, isId, firstSlot, slotFits, apart, slotsFit, usedBit, usedCount, enter, dataSlot}
-use Rattle.requests.specs.Phases.{freeSlot, isPhase, code}
+use Rattle.requests.specs.Slots.{inPhase, isId, firstSlot, slotFits, apart, slotsFit, usedBit, usedCount, enter, dataSlot, finishSlot}
+use Rattle.requests.specs.Phases.{freeSlot, isPhase, canFinish, code}
 use Rattle.channel.specs.Channel.{deadFits, plainShape, heldShape, shape}
-use Rattle.demands.specs.Request.{ending, itemOf, Request, idle, moved}
+use Rattle.demands.specs.Request.{ending, itemOf, Request, idle, isIn, enters, moved}
 use Rattle.rules.specs.Rules.{firstBroken, isCommand, rules}
 use Rattle.rules.proofs.Bools.{and-r, and-i, and-no, no-not, no-is, fails, clash, by-cond}
 use Rattle.channel.proofs.SlotLaws.{inside, each-fits, same-id, of-id, not-free-id, freed-slot}
 use Rattle.rules.proofs.RuleLaws.{passed}
 use Rattle.buffer.proofs.WriteLaws.{own-part, other-part}
 use Rattle.demands.proofs.PlaceLaws.{hit, missed, placed-at}
-use Rattle.channel.proofs.ReceiverLaws.{Ok, ok-start, Room, room, waits, used}
+use Rattle.channel.proofs.PhaseLaws.{used, takes-used, finish-used}
+use Rattle.channel.proofs.ReceiverLaws.{Ok, ok-start, Room, room, takes, Follows, data-fits, finish-fits}
 
 -- the receiver seen from a request
 unfoldable pub seen : ℕ → Receiver → Request
@@ -55,6 +56,7 @@ unfolding slotFits code
 slot-length id n Free d e = let z : n ≡ 0 = eqb-true n 0 (and-r (eqb id 0 && not d) (eqb n 0) e) in (omega arith, λ _. z)
 slot-length id n Collecting d e = (leb-true n maxCommand (and-r (not (isEven id)) (leb n maxCommand) e), λ k. clash refl k)
 slot-length id n Waiting d e = let z : n ≡ 0 = eqb-true n 0 (and-r (not (isEven id) && d) (eqb n 0) e) in (omega arith, λ _. z)
+slot-length id n Draining d e = let z : n ≡ 0 = eqb-true n 0 (and-r (not (isEven id) && d) (eqb n 0) e) in (omega arith, λ _. z)
 slot-length id n Running d e = let z : n ≡ 0 = eqb-true n 0 (and-r (not (isEven id)) (eqb n 0) e) in (omega arith, λ _. z)
 
 pub short-slot : (x : Slot) → slotFits x ≡ true → x .length ≤ maxCommand
@@ -107,16 +109,53 @@ held-bytes s f w fit k =
     ))
     (λ n. refl)
 
+-- ---- another slot in the place of a request's own
+
+-- an active id's slot has it
+has-id : (s : Channel) (id : ℕ) → inPhase Free (slotOf s id) ≡ false → isId id (slotOf s id) ≡ true
+unfolding slotAt placeOf
+has-id s id u = hit (isId id) (s .slots) (inside (s .slots) (firstSlot (isId id) (s .slots)) u)
+
+-- another id's slot does not
+not-mine : (id other : ℕ) (x : Slot) → (other ≡ id → ⊥) → isId other x ≡ true → isId id x ≡ false
+not-mine id other x ne h = fails (isId id x) (λ k. ne (sym (same-id other x h .1) ∙ same-id id x k .1))
+
+-- and no slot that follows it
+not-follower : (id other : ℕ) (x y : Slot) → (other ≡ id → ⊥) → isId other x ≡ true → Follows x y → isId id y ≡ false
+not-follower id other x y ne h m =
+    fails (isId id y) (λ k. let (u, q) = same-id id y k in ne (sym (same-id other x h .1) ∙ same-id (y .id) x (m .same u) .1 ∙ q))
+
+module _ (r : Receiver) (id : ℕ) (fit : slotsFit (r .state .slots) ≡ true) (active : inPhase Free (slotOf (r .state) id) ≡ false) where
+  abbrev own : Slot
+  own = slotOf (r .state) id
+
+  abbrev after : Slot → Receiver
+  after y = record { state = withSlot (r .state) (placeOf (r .state) id) y; work = r .work }
+
+  -- a free one: the request is idle
+  sees-free : seen id (after freeSlot) ≡ idle
+  unfolding placeOf slotAt idle
+  sees-free = seen-at id (after freeSlot) freeSlot (placeOf (after freeSlot .state) id) refl (freed-slot id (r .state .slots) fit)
+
+  -- its own in another phase: so is the request
+  sees-entered : (p : Phase) → eqb (code p) 0 ≡ false → seen id (after (enter p own)) ≡ enters p (seen id r)
+  unfolding placeOf slotAt seen enter enters isId isPhase code
+  sees-entered p n =
+      let k : isId id (enter p own) ≡ true = rw n (eq-eqb (own .id) id (same-id id own (has-id (r .state) id active) .1)) in
+      let d = placed-at (isId id) (r .state .slots) (placeOf (r .state) id) (enter p own) (omega arith) (inside (r .state .slots) (placeOf (r .state) id) active) k in
+      seen-at id (after (enter p own)) (enter p own) (placeOf (r .state) id) (d .0) (d .1)
+
+  -- one that follows its own: no other request sees it
+  others-see : (y : Slot) → Follows own y → (j : ℕ) → (id ≡ j → ⊥) → seen j (after y) ≡ seen j r
+  unfolding placeOf slotAt
+  others-see y m j ne =
+      let h : isId id own ≡ true = has-id (r .state) id active in
+      let d = missed (isId j) (r .state .slots) (placeOf (r .state) id) y (not-follower j id own y ne h m) (not-mine j id own ne h) in
+      seen-eq j r (after y) (rw (d .0) (d .1)) (rw (d .0))
+
+-- ---- a frame that is accepted
+
 module _ (s : Channel) (f : Frame) (w : List ℕ) (wide : workArea ≤ length w) (count : length (s .slots) ≡ slotCount) (fit : slotsFit (s .slots) ≡ true) (e : firstBroken rules f (viewOf s f w) ≡ 0) where
-  -- an active id's slot has it
-  has-id : (id : ℕ) → inPhase Free (slotOf s id) ≡ false → isId id (slotOf s id) ≡ true
-  unfolding slotAt placeOf
-  has-id id u = hit (isId id) (s .slots) (inside (s .slots) (firstSlot (isId id) (s .slots)) u)
-
-  -- another id's slot does not
-  not-mine : (id other : ℕ) (x : Slot) → (other ≡ id → ⊥) → isId other x ≡ true → isId id x ≡ false
-  not-mine id other x ne h = fails (isId id x) (λ k. ne (sym (same-id other x h .1) ∙ same-id id x k .1))
-
   free-not : (id : ℕ) (x : Slot) → inPhase Free x ≡ true → isId id x ≡ false
   free-not id x h = fails (isId id x) (λ k. clash h (same-id id x k .0))
 
@@ -142,7 +181,7 @@ module _ (s : Channel) (f : Frame) (w : List ℕ) (wide : workArea ≤ length w)
   target-other id c ne =
       by-cond (λ i. isId id (slotAt s i) ≡ false) (isNew f) (lowestFree s) (placeOf s (f .request))
       (λ n. free-not id (slotAt s (lowestFree s)) (lowest-is-free s))
-      (λ n. not-mine id (f .request) (slotOf s (f .request)) ne (has-id (f .request) (used Collecting (slotOf s (f .request)) refl (collects c n))))
+      (λ n. not-mine id (f .request) (slotOf s (f .request)) ne (has-id s (f .request) (used Collecting (slotOf s (f .request) .phase) refl (collects c n))))
 
   -- ---- another request's frame
 
@@ -189,7 +228,7 @@ module _ (s : Channel) (f : Frame) (w : List ℕ) (wide : workArea ≤ length w)
           let l : i < length (s .slots) = inside (s .slots) i h in
           let b : slotAt s j .length + length (f .payload) ≤ maxCommand = rm c .1 in
           let t : j < slotCount = rm c .0 in
-          other-part w (partStart i) (x .length) at (f .payload) (omega arith) (side (omega (arith, count)) (apart (has-id id h)) (ltb i j) refl)
+          other-part w (partStart i) (x .length) at (f .payload) (omega arith) (side (omega (arith, count)) (apart (has-id s id h)) (ltb i j) refl)
 
   not-id : (id : ℕ) (y : Slot) → (y .id ≡ id → ⊥) → isId id y ≡ false
   not-id id y ne = fails (isId id y) (λ k. ne (same-id id y k .1))
@@ -198,19 +237,17 @@ module _ (s : Channel) (f : Frame) (w : List ℕ) (wide : workArea ≤ length w)
   slot-other : (id : ℕ) → ((isCommand f || isType 2 f) ≡ true → f .request ≡ id → ⊥)
       → (firstSlot (isId id) (slotsAfter s f) ≡ firstSlot (isId id) (s .slots))
       × (getD (slotsAfter s f) (firstSlot (isId id) (s .slots)) freeSlot ≡ getD (s .slots) (firstSlot (isId id) (s .slots)) freeSlot)
-  unfolding slotsAfter slotAt commandSlot code dataSlot enter
+  unfolding slotsAfter slotAt commandSlot
   slot-other id ne =
       by-cond Same (isCommand f) (set (s .slots) (target s f) (commandSlot s f)) (cond (isType 2 f) (set (s .slots) (placeOf s (f .request)) (dataSlot x f)) (s .slots))
       (λ c. let n : f .request ≡ id → ⊥ = ne (rw c) in
       missed (isId id) (s .slots) (target s f) (commandSlot s f) (not-id id (commandSlot s f) n) (target-other id c n))
       (λ c. by-cond Same (isType 2 f) (set (s .slots) (placeOf s (f .request)) (dataSlot x f)) (s .slots)
       (λ t. let n : f .request ≡ id → ⊥ = ne (rw (c, t)) in
-      let h : isId (f .request) x ≡ true = has-id (f .request) (used Waiting x refl (waits s f w wide count fit e t)) in
+      let k = takes s f w wide count fit e t in
+      let h : isId (f .request) x ≡ true = has-id s (f .request) (takes-used (x .phase) k) in
       missed (isId id) (s .slots) (placeOf s (f .request)) (dataSlot x f)
-      (by-cond (λ y. isId id y ≡ false) (isLast f) (enter Running x) x
-      (λ _. not-id id (enter Running x) (λ k. n (sym (same-id (f .request) x h .1) ∙ k)))
-      (λ _. not-mine id (f .request) x n h))
-      (not-mine id (f .request) x n h))
+      (not-follower id (f .request) x (dataSlot x f) n h (data-fits x f (each-fits (s .slots) (placeOf s (f .request)) fit) k)) (not-mine id (f .request) x n h))
       (λ t. (refl, refl)))
     where
       x : Slot
@@ -286,7 +323,7 @@ module _ (s : Channel) (f : Frame) (w : List ℕ) (wide : workArea ≤ length w)
       ∙ sym (moved-command c (seen (f .request) before)))
 
   -- a data frame
-  not-command : isType 2 f ≡ true → isCommand f ≡ false
+  pub not-command : isType 2 f ≡ true → isCommand f ≡ false
   unfolding isCommand isType
   not-command t = rw (eqb-true (f .type) 2 t)
 
@@ -294,37 +331,26 @@ module _ (s : Channel) (f : Frame) (w : List ℕ) (wide : workArea ≤ length w)
   unfolding accepted slotsAfter with-slots
   after-data t = rw (not-command t, t)
 
-  data-place : isType 2 f ≡ true → (firstSlot (isId (f .request)) (set (s .slots) (placeOf s (f .request)) (dataSlot (slotOf s (f .request)) f)) ≡ placeOf s (f .request))
-      × (getD (set (s .slots) (placeOf s (f .request)) (dataSlot (slotOf s (f .request)) f)) (placeOf s (f .request)) freeSlot ≡ dataSlot (slotOf s (f .request)) f)
-  unfolding placeOf slotAt dataSlot enter isId code isPhase
-  data-place t =
-      let u : inPhase Free (slotOf s (f .request)) ≡ false = used Waiting (slotOf s (f .request)) refl (waits s f w wide count fit e t) in
-      let h : isId (f .request) (slotOf s (f .request)) ≡ true = has-id (f .request) u in
-      placed-at (isId (f .request)) (s .slots) (placeOf s (f .request)) (dataSlot (slotOf s (f .request)) f) (omega arith) (inside (s .slots) (placeOf s (f .request)) u)
-      (by-cond (λ y. isId (f .request) y ≡ true) (isLast f) (enter Running (slotOf s (f .request))) (slotOf s (f .request))
-      (λ _. eq-eqb (slotOf s (f .request) .id) (f .request) (same-id (f .request) (slotOf s (f .request)) h .1)) (λ _. h))
+  abbrev mine : Slot
+  mine = slotOf s (f .request)
 
-  data-form : (l : Bool) (x : Slot) (rest : List ℕ)
-      → _≡_ {A = Request} (record { phase = cond l (enter Running x) x .phase; databit = cond l (enter Running x) x .databit; bytes = take (cond l (enter Running x) x .length) rest })
-      (cond l (record { phase = Running; databit = x .databit; bytes = take (x .length) rest }) (record { phase = x .phase; databit = x .databit; bytes = take (x .length) rest }))
-  unfolding enter
-  data-form true x rest = refl
-  data-form false x rest = refl
+  -- by the flag for last, and whether the request drains
+  data-seen : inPhase Free mine ≡ false → (l d : Bool) → seen (f .request) (with-slots (set (s .slots) (placeOf s (f .request)) (cond l (cond d freeSlot (enter Running mine)) mine)) w)
+      ≡ cond l (cond d idle (enters Running (seen (f .request) before))) (seen (f .request) before)
+  unfolding with-slots placeOf slotAt seen enter enters isPhase code
+  data-seen u true true = sees-free before (f .request) fit u
+  data-seen u true false = sees-entered before (f .request) fit u Running refl
+  data-seen u false d = sees-entered before (f .request) fit u (mine .phase) u
 
-  moved-data : isType 2 f ≡ true → (q : Request) → moved q (itemOf f) ≡ cond (isLast f) (record { phase = Running; databit = q .databit; bytes = q .bytes }) q
+  pub moved-data : isType 2 f ≡ true → (q : Request) → moved q (itemOf f) ≡ cond (isLast f) (cond (isIn Draining q) idle (enters Running q)) q
   unfolding moved itemOf isLast isType
   moved-data t q = rw (eqb-true (f .type) 2 t)
 
   own-data : isType 2 f ≡ true → Moved (accepted s f w .next)
-  unfolding with-slots placeOf slotAt dataSlot seen
+  unfolding dataSlot seen
   own-data t =
       rw (after-data t)
-      (seen-at (f .request) (with-slots (set (s .slots) (placeOf s (f .request)) (dataSlot x f)) w) (dataSlot x f) (placeOf s (f .request)) (data-place t .0) (data-place t .1)
-      ∙ data-form (isLast f) x (drop (partStart (placeOf s (f .request))) w)
-      ∙ sym (moved-data t (seen (f .request) before)))
-    where
-      x : Slot
-      x = slotOf s (f .request)
+      (data-seen (takes-used (mine .phase) (takes s f w wide count fit e t)) (isLast f) (inPhase Draining mine) ∙ sym (moved-data t (seen (f .request) before)))
 
   pub own-frame : (isCommand f || isType 2 f) ≡ true → Moved (accepted s f w .next)
   own-frame h = go (isCommand f) refl h
@@ -351,42 +377,56 @@ never n q = absurd (z q)
 -- ---- finish
 
 pub data Finished (r : Receiver) (j : ℕ) : Reply Receiver → Type 0 where
-  ended : inPhase Running (slotOf (r .state) j) ≡ true → Finished r j (record { next = record { state = freed (r .state) j; work = r .work }; number = 0 })
-  stays : inPhase Running (slotOf (r .state) j) ≡ false → Finished r j (record { next = r; number = 4 })
+  taken : canFinish (slotOf (r .state) j .phase) ≡ true → Finished r j (record { next = record { state = withFinished (r .state) j; work = r .work }; number = 0 })
+  stays : canFinish (slotOf (r .state) j .phase) ≡ false → Finished r j (record { next = r; number = 4 })
 
 abbrev lift : Receiver → Reply Channel → Reply Receiver
 lift r a = record { next = record { state = a .next; work = r .work }; number = a .number }
 
 pub finish-cases : (r : Receiver) (j : ℕ) → r .state .dead ≡ 0 → Finished r j (finish r j)
 unfolding finish finishState
-finish-cases r j live = go (r .state .dead) (inPhase Running (slotOf (r .state) j)) live refl
+finish-cases r j live = go (r .state .dead) (canFinish (slotOf (r .state) j .phase)) live refl
   where
-    go : (n : ℕ) (t : Bool) → n ≡ 0 → inPhase Running (slotOf (r .state) j) ≡ t
+    go : (n : ℕ) (t : Bool) → n ≡ 0 → canFinish (slotOf (r .state) j .phase) ≡ t
         → Finished r j (lift r (elim n as (λ _. Reply Channel) [
           | suc n ↦ record { next = r .state; number = suc n }
-          | zero ↦ elim t as (λ _. Reply Channel) [ true ↦ record { next = freed (r .state) j; number = 0 } | false ↦ record { next = r .state; number = 4 } ]
+          | zero ↦ elim t as (λ _. Reply Channel) [ true ↦ record { next = withFinished (r .state) j; number = 0 } | false ↦ record { next = r .state; number = 4 } ]
         ]))
-    go zero true e h = ended h
+    go zero true e h = taken h
     go zero false e h = stays h
     go (suc n) t e h = never n e
 
 pub finish-other : (id : ℕ) (r : Receiver) (j : ℕ) → Ok r → (j ≡ id → ⊥) → (t : Reply Receiver) → Finished r j t → seen id (t .next) ≡ seen id r
-unfolding freed slotAt placeOf code
+unfolding withFinished slotAt
 finish-other id r j k ne t (stays h) = refl
-finish-other id r j k ne t (ended h) =
-    let s = r .state in
-    let x = slotOf s j in
-    let u : inPhase Free x ≡ false = used Running x refl h in
-    let m : isId j x ≡ true = hit (isId j) (s .slots) (inside (s .slots) (firstSlot (isId j) (s .slots)) u) in
-    let d = missed (isId id) (s .slots) (placeOf s j) freeSlot (not-free-id id) (fails (isId id x) (λ q. ne (sym (same-id j x m .1) ∙ same-id id x q .1))) in
-    seen-eq id r (record { state = freed s j; work = r .work }) (rw (d .0) (d .1)) (rw (d .0))
+finish-other id r j k ne t (taken h) =
+    let x = slotOf (r .state) j in
+    others-see r j (k .slots) (finish-used (x .phase) h) (finishSlot x) (finish-fits x (each-fits (r .state .slots) (placeOf (r .state) j) (k .slots))) id ne
 
 pub finish-own : (id : ℕ) (r : Receiver) → Ok r → (t : Reply Receiver) → Finished r id t → seen id (t .next) ≡ moved (seen id r) ending
-unfolding freed slotAt placeOf code isPhase moved seen idle
-finish-own id r k t (stays h) = rw h
-finish-own id r k t (ended h) =
-    let q : Receiver = record { state = freed (r .state) id; work = r .work } in
-    seen-at id q freeSlot (placeOf (q .state) id) refl (freed-slot id (r .state .slots) (k .slots)) ∙ rw h
+unfolding withFinished finishSlot moved seen code
+finish-own id r k t (stays h) = go (inPhase Waiting x) (inPhase Running x) h
+  where
+    x : Slot
+    x = slotOf (r .state) id
+
+    go : (w u : Bool) → (w || u) ≡ false → seen id r ≡ cond w (enters Draining (seen id r)) (cond u idle (seen id r))
+    go true u q = clash refl q
+    go false true q = clash refl q
+    go false false q = refl
+finish-own id r k t (taken h) = go (inPhase Waiting x) (inPhase Running x) h
+  where
+    x : Slot
+    x = slotOf (r .state) id
+
+    active : inPhase Free x ≡ false
+    active = finish-used (x .phase) h
+
+    go : (w u : Bool) → (w || u) ≡ true
+        → seen id (record { state = withSlot (r .state) (placeOf (r .state) id) (cond w (enter Draining x) freeSlot); work = r .work }) ≡ cond w (enters Draining (seen id r)) (cond u idle (seen id r))
+    go true u q = sees-entered r id (k .slots) active Draining refl
+    go false true q = sees-free r id (k .slots) active
+    go false false q = clash q refl
 
 -- ---- the fresh state
 

@@ -122,7 +122,7 @@ fast-is (looks c key) = refl
 
 -- a line that names this one unfolds every definition of the receiver
 computes : Type 0
-unfolding Session.after Session.read Bytes.write Rules.checkOf Cbor.repeat Cbor.width Cbor.shortest Cbor.bigEndian Cbor.headValue Cbor.headOf Cbor.headAt Cbor.bytesAt Cbor.tagged Cbor.itemAt Cbor.key Cbor.pair Cbor.value Cbor.isItem Loose.anyOf Loose.looseItem Loose.loosePair Loose.loose Keys.part Keys.equal Keys.among Keys.twice Entries.all Entries.any Entries.entryAt Entries.entries Entries.contents Entries.find CommandMap.allowed CommandMap.valueUnder CommandMap.argsDouble CommandMap.double CommandMap.mapOf Command.checked Lookup.markOf Lookup.argumentAt Lookup.integerAt Header.lengthOf Header.headerOf Frame.frameOf Frame.flag Frame.isEven Frame.begins Frame.ends Frame.isType Frame.isNew Frame.isMore Frame.dataFollows Frame.isLast Frame.flagsFit Settings.isIdentity Records.bit Records.recordOf Receiver.freshState Phases.code Phases.isPhase Slots.firstSlot Receiver.slotAt Slots.isId Receiver.placeOf Receiver.lowestFree Receiver.target Receiver.commandLength Receiver.placed Receiver.command Receiver.streamOpen Rules.isCommand Rules.judged Rules.rules Rules.firstBroken Receiver.viewOf Receiver.refused Receiver.refusedWork Receiver.commandSlot Slots.enter Slots.dataSlot Receiver.slotsAfter Receiver.streamsAfter Rules.commandByte Rules.recordWith Receiver.accepted Receiver.judge Receiver.put Receiver.isWhole Receiver.tooLong Receiver.counted Receiver.takeByte Receiver.freed Receiver.finishState Receiver.finish Traces.startOf Traces.afterFeed Traces.afterFinish Traces.table quick fast
+unfolding Session.after Session.read Bytes.write Rules.checkOf Cbor.repeat Cbor.width Cbor.shortest Cbor.bigEndian Cbor.headValue Cbor.headOf Cbor.headAt Cbor.bytesAt Cbor.tagged Cbor.itemAt Cbor.key Cbor.pair Cbor.value Cbor.isItem Loose.anyOf Loose.looseItem Loose.loosePair Loose.loose Keys.part Keys.equal Keys.among Keys.twice Entries.all Entries.any Entries.entryAt Entries.entries Entries.contents Entries.find CommandMap.allowed CommandMap.valueUnder CommandMap.argsDouble CommandMap.double CommandMap.mapOf Command.checked Lookup.markOf Lookup.argumentAt Lookup.integerAt Header.lengthOf Header.headerOf Frame.frameOf Frame.flag Frame.isEven Frame.begins Frame.ends Frame.isType Frame.isNew Frame.isMore Frame.dataFollows Frame.isLast Frame.flagsFit Settings.isIdentity Records.bit Records.recordOf Receiver.freshState Phases.code Phases.isPhase Slots.firstSlot Receiver.slotAt Slots.isId Receiver.placeOf Receiver.lowestFree Receiver.target Receiver.commandLength Receiver.placed Receiver.command Receiver.streamOpen Rules.isCommand Rules.judged Rules.rules Rules.firstBroken Receiver.viewOf Receiver.refused Receiver.refusedWork Receiver.commandSlot Slots.enter Slots.dataSlot Receiver.slotsAfter Receiver.streamsAfter Rules.commandByte Rules.recordWith Receiver.accepted Receiver.judge Receiver.put Receiver.isWhole Receiver.tooLong Receiver.counted Receiver.takeByte Slots.finishSlot Receiver.withFinished Receiver.finishState Receiver.finish Traces.startOf Traces.afterFeed Traces.afterFinish Traces.table quick fast
 computes = Unit {0}
 
 fast-holds : map (λ x. fast (x .trace)) table ≡ map (λ x. x .result) table

@@ -1,6 +1,6 @@
 -- What is claimed of the channel: a reader starts here. Demand 3 and the claims below it are proved in proofs/Demand3.antt, what is
--- written in proofs/Written.antt, demand 2 and the count in proofs/Demand2.antt, what a refusal leaves in proofs/Refusal.antt, each claim
--- under its name. These are definitions: they assume nothing.
+-- written in proofs/Written.antt, demand 2 and the count in proofs/Demand2.antt, what a finish before the end does in proofs/Drain.antt, what a
+-- refusal leaves in proofs/Refusal.antt, each claim under its name. These are definitions: they assume nothing.
 use Prim.Native.Nat.{ℕ, _+_, _≤_, _<_}
 use mathlib.Core.Path.{_≡_}
 use mathlib.Core.Bool.{Bool, true, false, cond, _&&_, _||_}
@@ -9,14 +9,15 @@ use lib.ListN.{length, getD, drop}
 use lib.Dec.{leb, eqb}
 use Rattle.buffer.specs.Bytes.{write}
 use Rattle.frame.specs.Limits.{maxCommand, slotCount, longestRecord, workArea, partStart}
-use Rattle.frame.specs.Frame.{Frame, frameOf, isNew}
-use Rattle.requests.specs.Slots.{usedCount}
-use Rattle.session.specs.Session.{Call, feeds, owns, Event, Outcome, own, uncut, session, events}
+use Rattle.frame.specs.Frame.{Frame, frameOf, isType, isNew, isLast}
+use Rattle.requests.specs.declared.Phase.the-variants.{Free, Waiting, Draining}
+use Rattle.requests.specs.Slots.{inPhase, usedCount}
+use Rattle.session.specs.Session.{Step, Reply, Call, feeds, owns, Event, Outcome, own, uncut, session, events}
 use Rattle.session.specs.Demand3.{Whole}
 use Rattle.rules.specs.Rules.{isCommand}
 use Rattle.channel.specs.Receiver.{Receiver, freshState, slotAt, slotOf, placeOf, lowestFree, target, commandLength, placed, put, isWhole, takeByte}
 use Rattle.channel.specs.Channel.{shape, channel, finishOf}
-use Rattle.demands.specs.History.{Past, nothing, told, Sent, isAll, refusalOf, given, newFrames, finishes}
+use Rattle.demands.specs.History.{Past, nothing, told, Sent, isAll, refusalOf, given, IsCount}
 
 -- ---- demand 3
 
@@ -118,12 +119,36 @@ NextFrame =
 
 -- ---- the count of active requests
 
--- From the fresh state, after every session, one that refused a frame too: the count in the state and the finishes accepted are together the
--- new frames accepted. A session's first calls are a session, so this holds after each of its calls.
+-- From the fresh state, after every session, one that refused a frame too: the count in the state is the new frames accepted minus the finishes
+-- of running ids and the drains ended. A session's first calls are a session, so this holds after each of its calls.
 abbrev pub ActiveCount : Type 0
 ActiveCount =
     (w : List ℕ) → workArea ≤ length w → (cs : List Call) → Fed cs → let h = told nothing (events channel (freshOn w) cs) .end .deeds in
-    session channel (freshOn w) cs .end .state .active + finishes h ≡ newFrames h
+    IsCount (session channel (freshOn w) cs .end .state .active) h
+
+-- ---- answering early
+
+-- The answer to the finish of an id that waits for data: the id drains, and is as active as before; no byte of the work area changes.
+pub record Drains (r : Receiver) (id : ℕ) (a : Reply Receiver) : Type 0 where
+  pub number : a .number ≡ 0
+  pub phase : inPhase Draining (slotOf (a .next .state) id) ≡ true
+  pub active : a .next .state .active ≡ r .state .active
+  pub work : a .next .work ≡ r .work
+
+abbrev pub EarlyFinish : Type 0
+EarlyFinish = (r : Receiver) → Sound r → r .state .dead ≡ 0 → (id : ℕ) → inPhase Waiting (slotOf (r .state) id) ≡ true → Drains r id (own channel r id)
+
+-- A byte that completes a data frame of an id that drains, and the frame is accepted: no record. After the last frame the id is not active and
+-- one request less is; after any other the id still drains.
+pub record Drained (r : Receiver) (f : Frame) (t : Step Receiver) : Type 0 where
+  pub records : t .adds ≡ []
+  pub last : isLast f ≡ true → (inPhase Free (slotOf (t .next .state) (f .request)) ≡ true) × (t .next .state .active + 1 ≡ r .state .active)
+  pub more : isLast f ≡ false → (inPhase Draining (slotOf (t .next .state) (f .request)) ≡ true) × (t .next .state .active ≡ r .state .active)
+
+abbrev pub DrainedFrame : Type 0
+DrainedFrame =
+    (r : Receiver) → Sound r → r .state .dead ≡ 0 → (b : ℕ) → isWhole (put r b) ≡ true → isType 2 (frameWith r b) ≡ true
+    → inPhase Draining (slotOf (r .state) (frameWith r b .request)) ≡ true → takeByte r b .next .state .dead ≡ 0 → Drained r (frameWith r b) (takeByte r b)
 
 -- ---- what a refusal leaves
 

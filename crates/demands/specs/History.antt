@@ -1,19 +1,19 @@
 -- Demand 2: the frame rules read over the history alone, with no slot, no stream table and no work area. A history has the frames that
 -- the bytes taken complete, cut out by their lengths, and the finish calls at their places.
 use Prim.Native.Nat.{ℕ, zero, suc, _+_, _<_}
+use mathlib.Core.Path.{_≡_}
 use mathlib.Core.Bool.{Bool, true, false, cond, _&&_, _||_, not}
 use mathlib.Core.List.{List, [], _∷_, _++_}
 use lib.ListN.{length}
 use lib.Dec.{leb, eqb}
-use Rattle.requests.specs.declared.Phase.{Phase}
-use Rattle.requests.specs.declared.Phase.the-variants.{Free, Running}
+use Rattle.requests.specs.declared.Phase.the-variants.{Free, Running, Draining}
 use Rattle.frame.specs.Limits.{slotCount}
 use Rattle.session.specs.Session.{Step, Reply, Event, took, asked, Outcome, fed, answered}
-use Rattle.frame.specs.Frame.{Frame, frameOf, ends, isType, isNew}
+use Rattle.frame.specs.Frame.{Frame, frameOf, ends, isType, isNew, isLast}
 use Rattle.frame.specs.Header.{lengthOf}
 use Rattle.frame.specs.Records.{bit}
-use Rattle.demands.specs.Request.{Item, ending, itemOf, Request, idle, moved}
-use Rattle.requests.specs.Phases.{isPhase}
+use Rattle.demands.specs.Request.{Item, ending, itemOf, Request, idle, isIn, moved}
+use Rattle.requests.specs.Phases.{canFinish}
 use Rattle.rules.specs.Rules.{View, isCommand, overlong, rules, firstBroken, recordWith}
 
 -- a history has the latest first
@@ -47,9 +47,6 @@ stands (i ∷ is) = moved (stands is) i
 -- a request's phase, data bit and command bytes so far, all payloads joined in order
 unfoldable pub request : History → ℕ → Request
 request h id = stands (itemsOf id h)
-
-abbrev pub isIn : Phase → Request → Bool
-isIn p q = isPhase p (q .phase)
 
 -- how many numbers below n pass the test
 unfoldable pub howMany : ℕ → (ℕ → Bool) → ℕ
@@ -89,16 +86,16 @@ refusalOf h f = firstBroken rules f (viewIn h f)
 
 -- the record of an allowed frame
 unfoldable pub recordFor : History → Frame → List ℕ
-recordFor h f = recordWith f (command h f)
+recordFor h f = recordWith f (viewIn h f)
 
 -- and what a refused frame gives: nothing
 unfoldable pub given : History → Frame → List ℕ
 given h f = elim (refusalOf h f) [ zero ↦ recordFor h f | suc n ↦ [] ]
 
 unfoldable pub answerTo : History → ℕ → ℕ
-answerTo h id = cond (isIn Running (request h id)) 0 4
+answerTo h id = cond (canFinish (request h id .phase)) 0 4
 
--- ---- how many new frames a history has, and how many finishes that were accepted
+-- ---- how many new frames a history has, how many finishes of running ids, and how many drains ended
 
 unfoldable pub newFrames : History → ℕ
 newFrames [] = 0
@@ -108,7 +105,19 @@ newFrames (finish id ∷ h) = newFrames h
 unfoldable pub finishes : History → ℕ
 finishes [] = 0
 finishes (frame f ∷ h) = finishes h
-finishes (finish id ∷ h) = bit (eqb (answerTo h id) 0) + finishes h
+finishes (finish id ∷ h) = bit (isIn Running (request h id)) + finishes h
+
+unfoldable pub endsDrain : History → Frame → Bool
+endsDrain h f = isType 2 f && isLast f && isIn Draining (own h f)
+
+unfoldable pub drainsEnded : History → ℕ
+drainsEnded [] = 0
+drainsEnded (frame f ∷ h) = bit (endsDrain h f) + drainsEnded h
+drainsEnded (finish id ∷ h) = drainsEnded h
+
+-- the count of active requests: new frames accepted minus finishes of running ids minus drains ended
+abbrev pub IsCount : ℕ → History → Type 0
+IsCount n h = n + finishes h + drainsEnded h ≡ newFrames h
 
 -- ---- the reading
 

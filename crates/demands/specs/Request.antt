@@ -4,9 +4,9 @@ use mathlib.Core.Bool.{Bool, false, cond}
 use mathlib.Core.List.{List, [], _++_}
 use lib.Dec.{eqb}
 use Rattle.requests.specs.declared.Phase.{Phase}
-use Rattle.requests.specs.declared.Phase.the-variants.{Free, Collecting, Waiting, Running}
+use Rattle.requests.specs.declared.Phase.the-variants.{Free, Collecting, Waiting, Running, Draining}
 use Rattle.frame.specs.Frame.{Frame, flag}
-use Rattle.requests.specs.Phases.{code}
+use Rattle.requests.specs.Phases.{isPhase}
 
 -- a frame of type 1 or 2 without its stream id and stream flags, or a finish
 pub data Item : Type 0 where
@@ -25,12 +25,19 @@ pub record Request : Type 0 where
 unfoldable pub idle : Request
 idle = record { phase = Free; databit = false; bytes = [] }
 
--- what an item does to its request
+abbrev pub isIn : Phase → Request → Bool
+isIn p q = isPhase p (q .phase)
+
+unfoldable pub enters : Phase → Request → Request
+enters p q = record { phase = p; databit = q .databit; bytes = q .bytes }
+
+-- what an item does to its request: its last data ends one that drains, and makes one that waits run; a finish lets one that waits
+-- drain, and ends one that runs
 unfoldable pub moved : Request → Item → Request
 moved q (part type flags payload) =
     cond (eqb type 1)
     (cond (flag 0x04 flags)
     (record { phase = Collecting; databit = flag 0x08 flags; bytes = q .bytes ++ payload })
     (record { phase = cond (flag 0x08 flags) Waiting Running; databit = flag 0x08 flags; bytes = [] }))
-    (cond (eqb flags 0x02) (record { phase = Running; databit = q .databit; bytes = q .bytes }) q)
-moved q ending = cond (eqb (code (q .phase)) 3) idle q
+    (cond (eqb flags 0x02) (cond (isIn Draining q) idle (enters Running q)) q)
+moved q ending = cond (isIn Waiting q) (enters Draining q) (cond (isIn Running q) idle q)

@@ -1,5 +1,5 @@
--- Document 01's traces T1 to T12, and E5's mark, as one table. A row has calls from a start, the numbers that they answer, the taken count of each feed and
--- the joined records; or a command and a key, with the check's number, the number of the argument as an integer, and its value.
+-- Document 01's traces T1 to T12, E5's mark and E8's drains, as one table. A row has calls from a start, the numbers that they answer, the
+-- taken count of each feed and the joined records; or a command and a key, with the check's number, the number of the argument as an integer, and its value.
 -- proofs/Traces.antt proves it. These are definitions: they assume nothing.
 use Prim.Native.Nat.{ℕ, _+_, _-_, _^_}
 use mathlib.Core.Path.{_≡_}
@@ -113,36 +113,48 @@ eight extra =
     let next : List ℕ = header 0 1 1 0 0x16 ++ part in
     header 0 1 1 1 0x15 ++ firstPart ++ next ++ next ++ next ++ next ++ next ++ next ++ header extra 1 1 0 0x12 ++ part ++ replicate extra 0
 
--- seven requests that collect, one that runs, and a ninth
-abbrev pub nine : List Line → List Line
-nine between =
+-- T1's frame on the open stream, for a request and with this type and flags
+abbrev pub t1Of : ℕ → ℕ → List ℕ
+t1Of request last = header 0x10 0 request 0 last ++ drop 8 t1
+
+-- seven requests that collect, T1's command with this type and flags for an eighth, and a ninth
+abbrev pub nine : ℕ → List Line → List Line
+nine last between =
     fed (opening 1 1 ++ opening 0 3 ++ opening 0 5 ++ opening 0 7 ++ opening 0 9 ++ opening 0 11 ++ opening 0 13)
-    ∷ fed (header 0x10 0 15 0 0x11 ++ drop 8 t1) ∷ between ++ fed (opening 0 17) ∷ []
+    ∷ fed (t1Of 15 last) ∷ between ++ fed (opening 0 17) ∷ []
 
 -- T1's command with two bytes for the head of its name
 abbrev pub looseT1 : List ℕ
 looseT1 = 0xA2 ∷ 0x44 ∷ 0x6E ∷ 0x61 ∷ 0x6D ∷ 0x65 ∷ 0x58 ∷ 0x03 ∷ 0x73 ∷ 0x65 ∷ 0x74 ∷ 0x44 ∷ 0x61 ∷ 0x72 ∷ 0x67 ∷ 0x73 ∷ 0xA0 ∷ []
 
-abbrev pub t1Record : ℕ → List ℕ
-t1Record request = 0x13 ∷ 0 ∷ 0 ∷ 0 ∷ 1 ∷ 0 ∷ request ∷ 0 ∷ 0 ∷ drop 8 t1
+-- T1's record, with a request and its third body byte
+abbrev pub t1Record : ℕ → ℕ → List ℕ
+t1Record request third = 0x13 ∷ 0 ∷ 0 ∷ 0 ∷ 1 ∷ 0 ∷ request ∷ 0 ∷ third ∷ drop 8 t1
+
+-- T3's two bytes of data for request 1, the last or not
+abbrev pub lastData : List ℕ
+lastData = header 2 0 1 0 0x22 ++ 0x68 ∷ 0x69 ∷ []
+
+abbrev pub moreData : List ℕ
+moreData = header 2 0 1 0 0x21 ++ 0x68 ∷ 0x69 ∷ []
 
 unfoldable pub table : List Row
 table =
     -- T1, whole and byte by byte
-    row (calls fresh (fed t1 ∷ [])) (0 ∷ []) (24 ∷ []) (t1Record 1)
-    ∷ row (calls fresh (map (λ b. fed (b ∷ [])) t1)) (replicate 24 0) (replicate 24 1) (t1Record 1)
+    row (calls fresh (fed t1 ∷ [])) (0 ∷ []) (24 ∷ []) (t1Record 1 0)
+    ∷ row (calls fresh (map (λ b. fed (b ∷ [])) t1)) (replicate 24 0) (replicate 24 1) (t1Record 1 0)
     -- T2
     ∷ row (calls fresh (fed (9 ∷ 0 ∷ 0 ∷ 1 ∷ 0 ∷ 1 ∷ 1 ∷ 0x92 ∷ 0x48 ∷ 0x69 ∷ 0x64 ∷ 0x65 ∷ 0x6E ∷ 0x74 ∷ 0x69 ∷ 0x74 ∷ 0x79 ∷ []) ∷ [])) (0 ∷ []) (17 ∷ []) []
     -- T3
-    ∷ row (calls waiting (fed (2 ∷ 0 ∷ 0 ∷ 1 ∷ 0 ∷ 1 ∷ 0 ∷ 0x22 ∷ 0x68 ∷ 0x69 ∷ []) ∷ [])) (0 ∷ []) (10 ∷ []) (5 ∷ 0 ∷ 0 ∷ 0 ∷ 2 ∷ 0 ∷ 1 ∷ 0 ∷ 1 ∷ 0x68 ∷ 0x69 ∷ [])
+    ∷ row (calls waiting (fed lastData ∷ [])) (0 ∷ []) (10 ∷ []) (5 ∷ 0 ∷ 0 ∷ 0 ∷ 2 ∷ 0 ∷ 1 ∷ 0 ∷ 1 ∷ 0x68 ∷ 0x69 ∷ [])
     -- T4, both ways: seven bytes, and then the eighth
     ∷ row (calls fresh (eighthAlone (header 0xFF 0xFF 1 1 0x11))) (0 ∷ 0 ∷ []) (7 ∷ 1 ∷ []) []
     ∷ row (calls fresh (eighthAlone (0 ∷ 0 ∷ 1 ∷ drop 3 (header 0 0 1 1 0x11)))) (0 ∷ 11 ∷ []) (7 ∷ 1 ∷ []) []
     -- T5
     ∷ row (calls fresh (fed (take 7 t1 ++ 0x13 ∷ drop 8 t1) ∷ [])) (18 ∷ []) (24 ∷ []) []
     -- T6, both ways
-    ∷ row (calls fresh (nine [])) (0 ∷ 0 ∷ 20 ∷ []) (56 ∷ 24 ∷ 8 ∷ []) (t1Record 15)
-    ∷ row (calls fresh (nine (ends 15 ∷ []))) (0 ∷ 0 ∷ 0 ∷ 0 ∷ []) (56 ∷ 24 ∷ 8 ∷ []) (t1Record 15)
+    ∷ row (calls fresh (nine 0x11 [])) (0 ∷ 0 ∷ 20 ∷ []) (56 ∷ 24 ∷ 8 ∷ []) (t1Record 15 0)
+    ∷ row (calls fresh (nine 0x11 (ends 15 ∷ []))) (0 ∷ 0 ∷ 0 ∷ 0 ∷ []) (56 ∷ 24 ∷ 8 ∷ []) (t1Record 15 0)
     -- T7, both ways
     ∷ row (calls fresh (fed (eight 0) ∷ [])) (0 ∷ []) (2112 ∷ []) (3 ∷ 8 ∷ 0 ∷ 0 ∷ 1 ∷ 0 ∷ 1 ∷ 0 ∷ 0 ∷ firstPart ++ replicate 1792 0)
     ∷ row (calls fresh (fed (eight 1) ∷ [])) (23 ∷ []) (2113 ∷ []) []
@@ -162,8 +174,23 @@ table =
     -- E5: a command that is written loosely, cut in the loose head; it runs, and with the data bit it waits for data
     ∷ row (calls fresh (fed (header 7 0 1 1 0x15 ++ take 7 looseT1) ∷ fed (header 10 0 1 0 0x12 ++ drop 7 looseT1) ∷ ends 1 ∷ [])) (0 ∷ 0 ∷ 0 ∷ []) (15 ∷ 18 ∷ [])
     (0x14 ∷ 0 ∷ 0 ∷ 0 ∷ 1 ∷ 0 ∷ 1 ∷ 0 ∷ 2 ∷ looseT1)
-    ∷ row (calls fresh (fed (header 17 0 1 1 0x19 ++ looseT1) ∷ ends 1 ∷ fed (header 0 0 1 0 0x22) ∷ ends 1 ∷ [])) (0 ∷ 4 ∷ 0 ∷ 0 ∷ []) (25 ∷ 8 ∷ [])
+    ∷ row (calls fresh (fed (header 17 0 1 1 0x19 ++ looseT1) ∷ fed (header 0 0 1 0 0x22) ∷ ends 1 ∷ [])) (0 ∷ 0 ∷ 0 ∷ []) (25 ∷ 8 ∷ [])
     (0x14 ∷ 0 ∷ 0 ∷ 0 ∷ 1 ∷ 0 ∷ 1 ∷ 0 ∷ 3 ∷ looseT1 ++ 3 ∷ 0 ∷ 0 ∷ 0 ∷ 2 ∷ 0 ∷ 1 ∷ 0 ∷ 1 ∷ [])
+    -- E8: a drain, from its finish to its end, and the id used again
+    ∷ row (calls waiting (ends 1 ∷ fed moreData ∷ fed lastData ∷ fed (t1Of 1 0x11) ∷ ends 1 ∷ [])) (0 ∷ 0 ∷ 0 ∷ 0 ∷ 0 ∷ []) (10 ∷ 10 ∷ 24 ∷ []) (t1Record 1 0)
+    -- till its end the id is active; after it no data is taken
+    ∷ row (calls waiting (ends 1 ∷ fed (opening 0 1) ∷ [])) (0 ∷ 19 ∷ []) (8 ∷ []) []
+    ∷ row (calls waiting (ends 1 ∷ fed lastData ∷ fed lastData ∷ [])) (0 ∷ 0 ∷ 27 ∷ []) (10 ∷ 10 ∷ []) []
+    -- eight slots, of which one drains; and when the drain has ended
+    ∷ row (calls fresh (nine 0x19 (ends 15 ∷ []))) (0 ∷ 0 ∷ 0 ∷ 20 ∷ []) (56 ∷ 24 ∷ 8 ∷ []) (t1Record 15 1)
+    ∷ row (calls fresh (nine 0x19 (ends 15 ∷ fed (header 0 0 15 0 0x22) ∷ []))) (0 ∷ 0 ∷ 0 ∷ 0 ∷ 0 ∷ []) (56 ∷ 24 ∷ 8 ∷ 8 ∷ []) (t1Record 15 1)
+    -- finish twice; and a data frame of length 0 that ends a drain
+    ∷ row (calls waiting (ends 1 ∷ ends 1 ∷ [])) (0 ∷ 4 ∷ []) [] []
+    ∷ row (calls waiting (ends 1 ∷ fed (header 0 0 1 0 0x22) ∷ ends 1 ∷ [])) (0 ∷ 0 ∷ 4 ∷ []) (8 ∷ []) []
+    -- a finish in mid-frame drains the frame under way; a drained frame obeys 5, and ends its stream
+    ∷ row (calls waiting (fed (take 9 lastData) ∷ ends 1 ∷ fed (drop 9 lastData) ∷ [])) (0 ∷ 0 ∷ 0 ∷ []) (9 ∷ 1 ∷ []) []
+    ∷ row (calls waiting (ends 1 ∷ bytes (t1Of 3 0x11 ++ lastData) longestRecord ∷ fed (drop 9 lastData) ∷ [])) (0 ∷ 5 ∷ 0 ∷ []) (33 ∷ 1 ∷ []) (t1Record 3 0)
+    ∷ row (calls waiting (ends 1 ∷ fed (header 0 0 1 2 0x22) ∷ fed (opening 0 1) ∷ [])) (0 ∷ 0 ∷ 16 ∷ []) (8 ∷ 8 ∷ []) []
     ∷ []
 
 -- every row's result is what its trace gives

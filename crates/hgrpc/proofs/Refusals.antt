@@ -7,12 +7,11 @@ use mathlib.Core.Path.{_≡_, refl, sym, ap, _∙_}
 use borrow.Author.Tests.{le-leb, lt-ltb, le-ltb}
 use lib.ListN.{length}
 use Rattle.frame.specs.Limits.{workArea, longestRecord}
-use Rattle.requests.specs.declared.Phase.the-variants.{Running}
-use Rattle.requests.specs.Slots.{inPhase}
+use Rattle.requests.specs.Phases.{canFinish}
 use Rattle.session.specs.Session.{Reply, unchanged}
 use Rattle.session.proofs.Laws as laws
 use Rattle.channel.specs.declared.Channel.{Channel}
-use Rattle.channel.specs.Receiver.{Receiver, slotOf, freed, finishState}
+use Rattle.channel.specs.Receiver.{Receiver, slotOf, withFinished, finishState}
 use Rattle.channel.specs.Channel as machine
 use Rattle.channel.specs.Channel.{feedOf, finishOf, plainShape}
 use Rattle.layout.specs.State.{decode}
@@ -60,7 +59,7 @@ module _ (s : Channel) (id n : ℕ) where
       cond t
       (elim d as (λ _. Reply Channel) [
         | suc m ↦ same (suc m)
-        | zero ↦ elim u as (λ _. Reply Channel) [ true ↦ record { next = freed s id; number = 0 } | false ↦ same 4 ]
+        | zero ↦ elim u as (λ _. Reply Channel) [ true ↦ record { next = withFinished s id; number = 0 } | false ↦ same 4 ]
       ])
       (same 3)
 
@@ -72,7 +71,7 @@ module _ (s : Channel) (id n : ℕ) where
 
   finish-still : finishOf s id .number ≡ suc n → finishOf s id ≡ same (suc n)
   unfolding finishState
-  finish-still e = still-case (plainShape s) (s .dead) (inPhase Running (slotOf s id)) e
+  finish-still e = still-case (plainShape s) (s .dead) (canFinish (slotOf s id .phase)) e
 
 pub finish-refused : FinishRefused
 unfolding finishAnswer

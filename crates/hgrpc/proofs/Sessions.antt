@@ -13,15 +13,15 @@ use Rattle.frame.specs.Limits.{maxCommand, slotCount, streamCount, workArea}
 use Rattle.frame.specs.Frame.{Frame, frameOf, isType, isLast}
 use Rattle.frame.specs.Header.{lengthOf, headerOf}
 use Rattle.requests.specs.declared.Slot.{Slot}
-use Rattle.requests.specs.declared.Phase.the-variants.{Running}
-use Rattle.requests.specs.Phases.{freeSlot}
-use Rattle.requests.specs.Slots.{inPhase, enter, dataSlot}
+use Rattle.requests.specs.declared.Phase.the-variants.{Waiting, Running, Draining}
+use Rattle.requests.specs.Phases.{freeSlot, canFinish}
+use Rattle.requests.specs.Slots.{inPhase, enter, dataSlot, finishSlot}
 use Rattle.session.specs.Session.{Step, Feed, Reply, Call, feeds, owns, Outcome, fed, answered, read, feed, own, unchanged, wrote, after, session}
 use Rattle.session.proofs.Laws as laws
 use Rattle.rules.specs.Rules.{isCommand}
 use Rattle.rules.proofs.Bools.{and-r, by-cond}
 use Rattle.channel.specs.declared.Channel.{Channel}
-use Rattle.channel.specs.Receiver.{Receiver, slotAt, slotOf, placeOf, target, placed, commandSlot, slotsAfter, streamsAfter, refused, refusedWork, accepted, put, takeByte, freed, finishState, finish, freshState}
+use Rattle.channel.specs.Receiver.{Receiver, slotAt, slotOf, placeOf, target, placed, commandSlot, slotsAfter, streamsAfter, refused, refusedWork, accepted, put, takeByte, withFinished, finishState, finish, freshState}
 use Rattle.channel.specs.Channel.{deadFits, finishOf, channel}
 use Rattle.requests.proofs.UsedLaws.{at-most-all}
 use Rattle.channel.proofs.SlotLaws.{each-fits}
@@ -105,19 +105,27 @@ module _ (s : Channel) (f : Frame) (w : List ℕ) (b : AreBytes w) (p : AreBytes
   accepted-bytes : AreBytes (cond (isCommand f) (placed s f w) w)
   accepted-bytes = by-cond AreBytes (isCommand f) (placed s f w) w (λ _. placed-bytes) (λ _. b)
 
-data-id : (x : Slot) (t : Bool) → x .id < idCount → cond t (enter Running x) x .id < idCount
-unfolding enter
-data-id x true h = h
-data-id x false h = h
+abbrev Below : Slot → Type 0
+Below x = x .id < idCount
+
+data-id : (x : Slot) (f : Frame) → Below x → Below (dataSlot x f)
+unfolding dataSlot enter
+data-id x f h =
+    by-cond Below (isLast f) (cond (inPhase Draining x) freeSlot (enter Running x)) x
+    (λ _. by-cond Below (inPhase Draining x) freeSlot (enter Running x) (λ _. omega arith) (λ _. h)) (λ _. h)
+
+finish-id : (x : Slot) → Below x → Below (finishSlot x)
+unfolding finishSlot enter
+finish-id x h = by-cond Below (inPhase Waiting x) (enter Draining x) freeSlot (λ _. h) (λ _. omega arith)
 
 slots-narrow : (s : Channel) (f : Frame) → f .request < idCount → Narrow (s .slots) → Narrow (slotsAfter s f)
-unfolding slotsAfter commandSlot dataSlot slotAt
+unfolding slotsAfter commandSlot slotAt
 slots-narrow s f l k =
     by-cond Narrow (isCommand f) (set (s .slots) (target s f) (commandSlot s f))
     (cond (isType 2 f) (set (s .slots) (placeOf s (f .request)) (dataSlot (slotOf s (f .request)) f)) (s .slots))
     (λ _. narrow-set (s .slots) (target s f) (commandSlot s f) l k)
     (λ _. by-cond Narrow (isType 2 f) (set (s .slots) (placeOf s (f .request)) (dataSlot (slotOf s (f .request)) f)) (s .slots)
-    (λ _. narrow-set (s .slots) (placeOf s (f .request)) (dataSlot (slotOf s (f .request)) f) (data-id (slotOf s (f .request)) (isLast f) (k .id (placeOf s (f .request)))) k)
+    (λ _. narrow-set (s .slots) (placeOf s (f .request)) (dataSlot (slotOf s (f .request)) f) (data-id (slotOf s (f .request)) f (k .id (placeOf s (f .request)))) k)
     (λ _. k))
 
 module _ (r : Receiver) (b : ℕ) (l : b < 256) (k : Small r) where
@@ -152,11 +160,14 @@ module _ (r : Receiver) (b : ℕ) (l : b < 256) (k : Small r) where
       go (suc n) d = rw (d, takeByte) k
 
 finish-small : (r : Receiver) (id : ℕ) → Small r → Small (finish r id .next)
-unfolding finish finishState freed
-finish-small r id k = go (r .state .dead) (inPhase Running (slotOf (r .state) id)) refl refl
+unfolding finish finishState withFinished slotAt
+finish-small r id k = go (r .state .dead) (canFinish (slotOf (r .state) id .phase)) refl refl
   where
-    go : (n : ℕ) (t : Bool) → r .state .dead ≡ n → inPhase Running (slotOf (r .state) id) ≡ t → Small (finish r id .next)
-    go zero true d t = rw (d, t, finishState) (record { ids = narrow-set (r .state .slots) (placeOf (r .state) id) freeSlot (omega arith) (k .ids); streams = k .streams; work = k .work })
+    go : (n : ℕ) (t : Bool) → r .state .dead ≡ n → canFinish (slotOf (r .state) id .phase) ≡ t → Small (finish r id .next)
+    go zero true d t =
+        let i = placeOf (r .state) id in
+        let x = slotOf (r .state) id in
+        rw (d, t, finishState) (record { ids = narrow-set (r .state .slots) i (finishSlot x) (finish-id x (k .ids .id i)) (k .ids); streams = k .streams; work = k .work })
     go zero false d t = rw (d, t, finishState) k
     go (suc n) t d l = rw (d, finishState) k
 

@@ -13,7 +13,7 @@ use Rattle.channel.specs.Receiver.{Receiver}
 use Rattle.channel.specs.Channel.{shape, channel}
 use Rattle.command.specs.Lookup.{nameOf, argumentAt, partAt}
 use Rattle.demands.specs.Demands.{Sound, Fed, freshOn}
-use Rattle.demands.specs.History.{nothing, told, newFrames, finishes}
+use Rattle.demands.specs.History.{nothing, told, IsCount}
 use Rattle.layout.specs.State.{StateFits, encode, decode}
 use Rattle.fields.specs.Laws.{AreBytes}
 use Rattle.hgrpc.specs.Calls.{kept, answer, feedAnswer, finishAnswer, activeAnswer, nameAnswer, argumentAnswer}
@@ -81,13 +81,12 @@ AllSessions = (r : Receiver) → Starts r → (cs : List Call) → Fed cs → Wh
 abbrev pub FreshStarts : Type 0
 FreshStarts = (w : List ℕ) → workArea ≤ length w → AreBytes w → Starts (freshOn w)
 
--- After every list of calls over bytes that `hgrpc_fresh` made, `hgrpc_active` answers 0 and the count: with the finishes accepted it is the
--- new frames accepted.
+-- After every list of calls over bytes that `hgrpc_fresh` made, `hgrpc_active` answers 0 and the count that the history has.
 abbrev pub ActiveInBytes : Type 0
 ActiveInBytes =
     (w : List ℕ) → workArea ≤ length w → AreBytes w → (cs : List Call) → Fed cs
     → let a = activeAnswer (calls (lent (freshOn w)) cs .end .state) in let h = told nothing (events channel (freshOn w) cs) .end .deeds in
-    (a .number ≡ 0) × (a .count + finishes h ≡ newFrames h)
+    (a .number ≡ 0) × IsCount (a .count) h
 
 -- ---- a command's parts: what a place and a length name is what the lookup in Rattle gives
 

@@ -25,13 +25,14 @@ use Rattle.layout.specs.State.{phaseOf, phase, phaseCount, slot, ofParts
 
 -- ---- a phase
 
-pub phase-other : (n : ℕ) → (n ≡ 1 → ⊥) → (n ≡ 2 → ⊥) → (n ≡ 3 → ⊥) → Free ≡ phaseOf n
+pub phase-other : (n : ℕ) → (n ≡ 1 → ⊥) → (n ≡ 2 → ⊥) → (n ≡ 3 → ⊥) → (n ≡ 4 → ⊥) → Free ≡ phaseOf n
 unfolding phaseOf
-phase-other zero a b c = refl
-phase-other (suc zero) a b c = absurd (a refl)
-phase-other (suc (suc zero)) a b c = absurd (b refl)
-phase-other (suc (suc (suc zero))) a b c = absurd (c refl)
-phase-other (suc (suc (suc (suc n)))) a b c = refl
+phase-other zero a b c d = refl
+phase-other (suc zero) a b c d = absurd (a refl)
+phase-other (suc (suc zero)) a b c d = absurd (b refl)
+phase-other (suc (suc (suc zero))) a b c d = absurd (c refl)
+phase-other (suc (suc (suc (suc zero)))) a b c d = absurd (d refl)
+phase-other (suc (suc (suc (suc (suc n))))) a b c d = refl
 
 -- ---- a slot: its four fields behind one another
 

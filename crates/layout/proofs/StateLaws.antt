@@ -8,7 +8,7 @@ use native.Mathlib.Omega.{arith}
 use lib.ListN.{length}
 use Rattle.frame.specs.Limits.{slotCount, streamCount}
 use Rattle.requests.specs.declared.Phase.{Phase}
-use Rattle.requests.specs.declared.Phase.the-variants.{Free, Collecting, Waiting, Running}
+use Rattle.requests.specs.declared.Phase.the-variants.{Free, Collecting, Waiting, Running, Draining}
 use Rattle.requests.specs.declared.Slot.{Slot}
 use Rattle.requests.specs.Phases.{code}
 use Rattle.channel.specs.declared.Channel.{Channel}
@@ -26,6 +26,7 @@ phase-below Free = omega arith
 phase-below Collecting = omega arith
 phase-below Waiting = omega arith
 phase-below Running = omega arith
+phase-below Draining = omega arith
 
 phase-back : (p : Phase) → phaseOf (code p) ≡ p
 unfolding code phaseOf
@@ -33,6 +34,7 @@ phase-back Free = refl
 phase-back Collecting = refl
 phase-back Waiting = refl
 phase-back Running = refl
+phase-back Draining = refl
 
 phase-only : (n : ℕ) → n < phaseCount → code (phaseOf n) ≡ n
 unfolding code phaseOf
@@ -40,9 +42,10 @@ phase-only zero h = refl
 phase-only (suc zero) h = refl
 phase-only (suc (suc zero)) h = refl
 phase-only (suc (suc (suc zero))) h = refl
-phase-only (suc (suc (suc (suc n)))) h = absurd (none′ h)
+phase-only (suc (suc (suc (suc zero)))) h = refl
+phase-only (suc (suc (suc (suc (suc n))))) h = absurd (none′ h)
   where
-    none′ : suc (suc (suc (suc n))) < 4 → ⊥
+    none′ : suc (suc (suc (suc (suc n)))) < 5 → ⊥
     none′ k = omega arith
 
 abbrev SlotIn : Slot → Type 0

@@ -9,7 +9,7 @@ use mathlib.Core.Path.{_≡_}
 use lib.ListN.{length, getD}
 use Rattle.frame.specs.Limits.{slotCount, streamCount}
 use Rattle.requests.specs.declared.Phase.{Phase}
-use Rattle.requests.specs.declared.Phase.the-variants.{Free, Collecting, Waiting, Running}
+use Rattle.requests.specs.declared.Phase.the-variants.{Free, Collecting, Waiting, Running, Draining}
 use Rattle.requests.specs.declared.Slot.{Slot}
 use Rattle.requests.specs.Phases.{code}
 use Rattle.channel.specs.declared.Channel.{Channel}
@@ -21,10 +21,10 @@ use Rattle.fields.specs.Laws.{AllFit}
 
 -- the phases in the order of their codes
 unfoldable pub phaseOf : ℕ → Phase
-phaseOf n = getD (Free ∷ Collecting ∷ Waiting ∷ Running ∷ []) n Free
+phaseOf n = getD (Free ∷ Collecting ∷ Waiting ∷ Running ∷ Draining ∷ []) n Free
 
 abbrev pub phaseCount : ℕ
-phaseCount = 4
+phaseCount = 5
 
 abbrev pub phase : Field Phase
 phase = choice phaseCount code phaseOf

@@ -35,7 +35,7 @@ const ACTIVE: usize = STREAMS + 128;
 pub const STATE: usize = ACTIVE + 1;
 
 // How many phases there are.
-const PHASES: u8 = 4;
+const PHASES: u8 = 5;
 
 // ---- bytes to a state
 
@@ -71,6 +71,7 @@ fn phase_of(code: u8) -> Phase
         1 => Phase::Collecting,
         2 => Phase::Waiting,
         3 => Phase::Running,
+        4 => Phase::Draining,
         _ => Phase::Free,
     }
 }

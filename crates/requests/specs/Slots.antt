@@ -8,11 +8,11 @@ use Rattle.frame.specs.Limits.{maxCommand}
 use Rattle.frame.specs.Frame.{Frame, isEven, isMore, dataFollows, isLast}
 use Rattle.frame.specs.Records.{bit}
 use Rattle.requests.specs.declared.Phase.{Phase}
-use Rattle.requests.specs.declared.Phase.the-variants.{Free, Collecting, Waiting, Running}
+use Rattle.requests.specs.declared.Phase.the-variants.{Free, Collecting, Waiting, Running, Draining}
 use Rattle.requests.specs.declared.Slot.{Slot}
 use Rattle.requests.specs.declared.Want.{Want}
 use Rattle.requests.specs.declared.Want.the-variants.{Used, Unused}
-use Rattle.requests.specs.Phases.{isPhase}
+use Rattle.requests.specs.Phases.{isPhase, freeSlot}
 
 abbrev pub inPhase : Phase → Slot → Bool
 inPhase p x = isPhase p (x .phase)
@@ -39,6 +39,7 @@ slotFits x =
       | Collecting ↦ not (isEven (x .id)) && leb (x .length) maxCommand
       | Waiting ↦ not (isEven (x .id)) && x .databit && eqb (x .length) 0
       | Running ↦ not (isEven (x .id)) && eqb (x .length) 0
+      | Draining ↦ not (isEven (x .id)) && x .databit && eqb (x .length) 0
     ]
 
 unfoldable pub idIn : ℕ → List Slot → Bool
@@ -61,7 +62,7 @@ unfoldable pub usedCount : List Slot → ℕ
 usedCount [] = 0
 usedCount (x ∷ xs) = usedBit x + usedCount xs
 
--- ---- what frames do to a slot
+-- ---- what frames and a finish do to a slot
 
 -- the slot of a command frame's request, with the command's length
 abbrev pub collected : Frame → ℕ → Slot
@@ -75,6 +76,10 @@ collected f n = record {
 unfoldable pub enter : Phase → Slot → Slot
 enter p x = record { id = x .id; phase = p; databit = x .databit; length = x .length }
 
--- the last data frame makes the request running
+-- the last data frame frees the slot of a request that drains, and makes one that waits run
 unfoldable pub dataSlot : Slot → Frame → Slot
-dataSlot x f = cond (isLast f) (enter Running x) x
+dataSlot x f = cond (isLast f) (cond (inPhase Draining x) freeSlot (enter Running x)) x
+
+-- a finish that is accepted lets a request that waits drain, and frees the slot of one that runs
+unfoldable pub finishSlot : Slot → Slot
+finishSlot x = cond (inPhase Waiting x) (enter Draining x) freeSlot

@@ -5,16 +5,18 @@ ghost use mathlib.Core.Bool.{_&&_};
 ghost use lib.Dec.{eqb};
 ghost use mathlib.Core.List.{[]};
 ghost use Rattle.frame.specs.Frame.{framed, isEven};
-ghost use Rattle.requests.specs.Phases.{code, freeSlot};
-ghost use Rattle.requests.specs.Slots.{firstSlot, isId, meets, slotFits, idIn, apart, slotsFit, usedBit, usedCount, collected, dataSlot};
+ghost use Rattle.requests.specs.Phases.{code, isPhase, takesData, canFinish, freeSlot};
+ghost use Rattle.requests.specs.Slots.{inPhase, firstSlot, enter, isId, meets, slotFits, idIn, apart, slotsFit, usedBit, usedCount, collected, dataSlot, finishSlot};
 ghost use lib.ListN.{drop, getD, set};
 
-// A request is collecting (its command isn't whole), waiting for data, or running. A free slot holds none.
+// A request is collecting (its command isn't whole), waiting for data, running, or draining (finished before its data has all come).
+// A free slot holds none.
 pub enum Phase {
     Free,
     Collecting,
     Waiting,
     Running,
+    Draining,
 }
 
 // A slot: the request's id, its phase, its data bit, and how many bytes of its command the slot's part of the work area holds.
@@ -31,7 +33,7 @@ pub enum Want {
     Unused,
 }
 
-// The number of a phase: 0 free, 1 collecting, 2 waiting, 3 running.
+// The number of a phase: 0 free, 1 collecting, 2 waiting, 3 running, 4 draining.
 pub fn phase_code(p: Phase) -> u8
     ensures { λ r. ⌜ r ≡ code p ⌝ }
 {
@@ -40,7 +42,22 @@ pub fn phase_code(p: Phase) -> u8
         Phase::Collecting => 1,
         Phase::Waiting => 2,
         Phase::Running => 3,
+        Phase::Draining => 4,
     }
+}
+
+// Whether a phase is this one.
+pub fn is_phase(p: Phase, q: Phase) -> bool
+    ensures { λ r. ⌜ r ≡ isPhase p q ⌝ }
+{
+    phase_code(q) == phase_code(p)
+}
+
+// Whether data is taken for a request in this phase.
+pub fn takes_data(p: Phase) -> bool
+    ensures { λ r. ⌜ r ≡ takesData p ⌝ }
+{
+    is_phase(Phase::Waiting, p) | is_phase(Phase::Draining, p)
 }
 
 fn is_even(n: u16) -> bool
@@ -62,12 +79,31 @@ impl Slot {
         }
     }
 
+    // The slot with its request in another phase.
+    fn enter(self, phase: Phase) -> Slot
+        ensures { λ r. ⌜ r ≡ enter phase self ⌝ }
+    {
+        Slot {
+            id: self.id,
+            phase,
+            databit: self.databit,
+            length: self.length,
+        }
+    }
+
+    // Whether its request is in this phase, Free where it holds none.
+    fn in_phase(self, p: Phase) -> bool
+        ensures { λ r. ⌜ r ≡ inPhase p self ⌝ }
+    {
+        let phase = self.phase;
+        is_phase(p, phase)
+    }
+
     // Whether a used slot holds this id.
     fn is_id(self, id: u16) -> bool
         ensures { λ r. ⌜ r ≡ isId id self ⌝ }
     {
-        let phase = self.phase;
-        if phase_code(phase) == 0 {
+        if self.in_phase(Phase::Free) {
             return false;
         }
         self.id == id
@@ -79,36 +115,11 @@ impl Slot {
     {
         let phase = self.phase;
         match phase {
-            Phase::Free => {
-                if self.id != 0 {
-                    return false;
-                }
-                if self.databit {
-                    return false;
-                }
-                self.length == 0
-            }
-            Phase::Collecting => {
-                if is_even(self.id) {
-                    return false;
-                }
-                self.length <= frame::MAX_COMMAND
-            }
-            Phase::Waiting => {
-                if is_even(self.id) {
-                    return false;
-                }
-                if !self.databit {
-                    return false;
-                }
-                self.length == 0
-            }
-            Phase::Running => {
-                if is_even(self.id) {
-                    return false;
-                }
-                self.length == 0
-            }
+            Phase::Free => (self.id == 0) & !self.databit & (self.length == 0),
+            Phase::Collecting => !is_even(self.id) & (self.length <= frame::MAX_COMMAND),
+            Phase::Waiting => !is_even(self.id) & self.databit & (self.length == 0),
+            Phase::Running => !is_even(self.id) & (self.length == 0),
+            Phase::Draining => !is_even(self.id) & self.databit & (self.length == 0),
         }
     }
 
@@ -116,8 +127,7 @@ impl Slot {
     fn is_apart(self, slots: [Slot; 8], from: usize) -> bool
         ensures { λ r. ⌜ r ≡ apart self (drop from slots) ⌝ }
     {
-        let phase = self.phase;
-        if phase_code(phase) == 0 {
+        if self.in_phase(Phase::Free) {
             return true;
         }
         !id_in(slots, self.id, from)
@@ -127,18 +137,16 @@ impl Slot {
     pub fn used_bit(self) -> u8
         ensures { λ r. ⌜ r ≡ usedBit self ⌝ }
     {
-        let phase = self.phase;
-        frame::bit(phase_code(phase) != 0)
+        frame::bit(!self.in_phase(Phase::Free))
     }
 
     // Whether the slot is what is looked for.
     fn meets(self, w: Want) -> bool
         ensures { λ r. ⌜ r ≡ meets w self ⌝ }
     {
-        let phase = self.phase;
         match w {
             Want::Used(id) => self.is_id(id),
-            Want::Unused => phase_code(phase) == 0,
+            Want::Unused => self.in_phase(Phase::Free),
         }
     }
 }
@@ -248,12 +256,27 @@ pub fn data_slot(x: Slot, h: Header) -> Slot
     ensures { λ r. ⌜ r ≡ dataSlot x (framed h []) ⌝ }
 {
     if h.is_last() {
-        return Slot {
-            id: x.id,
-            phase: Phase::Running,
-            databit: x.databit,
-            length: x.length,
-        };
+        if x.in_phase(Phase::Draining) {
+            return Slot::free();
+        }
+        return x.enter(Phase::Running);
     }
     x
+}
+
+// Whether finish accepts a request in this phase.
+pub fn can_finish(p: Phase) -> bool
+    ensures { λ r. ⌜ r ≡ canFinish p ⌝ }
+{
+    is_phase(Phase::Waiting, p) | is_phase(Phase::Running, p)
+}
+
+// A request's slot after a finish that is accepted.
+pub fn finish_slot(x: Slot) -> Slot
+    ensures { λ r. ⌜ r ≡ finishSlot x ⌝ }
+{
+    if x.in_phase(Phase::Waiting) {
+        return x.enter(Phase::Draining);
+    }
+    Slot::free()
 }

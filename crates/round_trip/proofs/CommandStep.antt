@@ -123,8 +123,8 @@ module _ (how : Wishes) (o : Sendable how) (s : Channel) (y : Start how s) (with
     passes = λ n h. rw (is-more, not-not last, the-command) (check-passes last (numberOf (checked (bytes ++ payload))) n good h);
   })
 
-  the-record : recordWith f (command (r .state) f w) ≡ cond last (requestRecord 1 (how .request) (commandByte with-data (bytes ++ payload)) (bytes ++ payload)) []
-  unfolding recordWith isCommand isType
+  the-record : recordWith f (viewOf (r .state) f w) ≡ cond last (requestRecord 1 (how .request) (commandByte with-data (bytes ++ payload)) (bytes ++ payload)) []
+  unfolding recordWith viewOf isCommand isType
   the-record = rw (is-more, not-not last, is-data, the-command)
 
   the-slots : slotsAfter (r .state) f ≡ set (s .slots) (lowestFree s) (slotAfter how with-data last (length (bytes ++ payload)))

@@ -9,14 +9,14 @@ use lib.ListN.{length, set}
 use Rattle.frame.specs.Limits.{maxPayload}
 use Rattle.frame.specs.Frame.{Frame, begins, ends, isType, isLast, flagsFit, frameBytes}
 use Rattle.frame.specs.Records.{bit, requestRecord}
-use Rattle.requests.specs.declared.Phase.the-variants.{Free, Waiting, Running}
+use Rattle.requests.specs.declared.Phase.the-variants.{Free, Waiting, Running, Draining}
 use Rattle.requests.specs.declared.Slot.{Slot}
-use Rattle.requests.specs.Phases.{isPhase, code}
+use Rattle.requests.specs.Phases.{freeSlot, isPhase, code}
 use Rattle.requests.specs.Slots.{enter, dataSlot}
 use Rattle.rules.specs.Rules.{isCommand, rules, firstBroken, recordWith}
 use Rattle.session.specs.Session.{fed, uncut}
 use Rattle.channel.specs.declared.Channel.{Channel}
-use Rattle.channel.specs.Receiver.{Receiver, placeOf, slotOf, lowestFree, command, streamOpen, viewOf, slotsAfter, streamsAfter, accepted}
+use Rattle.channel.specs.Receiver.{Receiver, placeOf, slotOf, lowestFree, streamOpen, viewOf, slotsAfter, streamsAfter, accepted}
 use Rattle.channel.specs.Channel.{channel}
 use Rattle.sender.specs.declared.Wishes.{Wishes}
 use Rattle.sender.specs.Frames.{dataFrame}
@@ -73,12 +73,12 @@ module _ (how : Wishes) (o : Sendable how) (s : Channel) (y : Start how s) (r : 
   unfolding viewOf isPhase code
   unbroken = data-unbroken f (viewOf (r .state) f w) refl regular (rw slot-is)
 
-  the-record : recordWith f (command (r .state) f w) ≡ requestRecord 2 (how .request) (bit last) payload
-  unfolding recordWith isCommand isType
-  the-record = rw is-last
+  the-record : recordWith f (viewOf (r .state) f w) ≡ requestRecord 2 (how .request) (bit last) payload
+  unfolding recordWith viewOf isCommand isType isPhase code
+  the-record = rw (is-last, slot-is)
 
-  data-slot : (t : Bool) → cond t (enter Running (slotIn how Waiting true 0)) (slotIn how Waiting true 0) ≡ slotAfterData how t
-  unfolding enter
+  data-slot : (t : Bool) → cond t (cond (isPhase Draining Waiting) freeSlot (enter Running (slotIn how Waiting true 0))) (slotIn how Waiting true 0) ≡ slotAfterData how t
+  unfolding enter isPhase code
   data-slot true = refl
   data-slot false = refl
 

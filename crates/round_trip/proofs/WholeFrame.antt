@@ -86,7 +86,7 @@ module _ (r : Receiver) (f : Frame) (b : Between r) (h : FrameFits f) where
 
   -- a frame that breaks no rule is accepted, and the receiver is between frames again
   pub accepted-read : firstBroken rules f (viewOf (r .state) f (areaWith r f)) ≡ 0 → (es : List Event)
-      → uncut channel r (map took (frameBytes f) ++ es) ≡ fed (recordWith f (command (r .state) f (areaWith r f))) (uncut channel (nextOf r f) es)
+      → uncut channel r (map took (frameBytes f) ++ es) ≡ fed (recordWith f (viewOf (r .state) f (areaWith r f))) (uncut channel (nextOf r f) es)
   unfolding judge accepted
   accepted-read e es = frame-read es ∙ ap (λ (t : Step Receiver). thenRead t es) (rw (e, judge))
 

@@ -11,7 +11,7 @@ use Rattle.command.specs.Lookup.{markOf}
 use Rattle.frame.specs.Frame.{Frame, isEven, begins, isType, isNew, isMore, dataFollows, isLast, flagsFit}
 use Rattle.frame.specs.Settings.{isIdentity}
 use Rattle.frame.specs.Records.{bit, requestRecord}
-use Rattle.requests.specs.Phases.{isPhase}
+use Rattle.requests.specs.Phases.{isPhase, takesData}
 
 pub record View : Type 0 where
   -- the frame's stream is open
@@ -64,7 +64,7 @@ rules =
     ∷ rule 24 (judged 24)
     ∷ rule 25 (judged 25)
     ∷ rule 26 (judged 26)
-    ∷ rule 27 (λ f v. isType 2 f && not (isPhase Waiting (v .phase)))
+    ∷ rule 27 (λ f v. isType 2 f && not (takesData (v .phase)))
     ∷ rule 28 (λ f v. isType 9 f && not (begins f))
     ∷ rule 29 (λ f v. isType 9 f && not (isIdentity (f .payload)))
     ∷ []
@@ -78,9 +78,9 @@ firstBroken (x ∷ xs) f v = elim (x .broken f v) [ true ↦ x .number | false �
 unfoldable pub commandByte : Bool → List ℕ → ℕ
 commandByte with-data command = bit with-data + 2 * markOf command
 
--- a whole command: all its payloads, joined in order; data: the payload; other frames give none
-unfoldable pub recordWith : Frame → List ℕ → List ℕ
-recordWith f command =
-    cond (isCommand f && not (isMore f)) (requestRecord 1 (f .request) (commandByte (dataFollows f) command) command)
-    (cond (isType 2 f) (requestRecord 2 (f .request) (bit (isLast f)) (f .payload))
+-- a whole command: all its payloads, joined in order; data that its request waits for: the payload; other frames give none
+unfoldable pub recordWith : Frame → View → List ℕ
+recordWith f v =
+    cond (isCommand f && not (isMore f)) (requestRecord 1 (f .request) (commandByte (dataFollows f) (v .command)) (v .command))
+    (cond (isType 2 f && isPhase Waiting (v .phase)) (requestRecord 2 (f .request) (bit (isLast f)) (f .payload))
     [])

@@ -78,7 +78,8 @@ pub fn head_number(h: Header, m: Met) -> u8
     ensures { λ r. ⌜ r ≡ firstBroken headRules (framed h []) (viewed m h []) ⌝ }
 {
     let phase = m.phase;
-    let code = requests::phase_code(phase);
+    let free = requests::is_phase(Phase::Free, phase);
+    let collects = requests::is_phase(Phase::Collecting, phase);
     let known = (h.kind == 1) | (h.kind == 2) | (h.kind == 9);
     let begins = h.begins();
     let command = h.kind == 1;
@@ -91,9 +92,9 @@ pub fn head_number(h: Header, m: Met) -> u8
     let n = try_rule(n, !m.is_open & !begins, 16);
     let n = try_rule(n, m.is_open & begins, 17);
     let n = try_rule(n, !h.flags_fit(), 18);
-    let n = try_rule(n, first & (code != 0), 19);
+    let n = try_rule(n, first & !free, 19);
     let n = try_rule(n, first & m.full, 20);
-    let n = try_rule(n, further & (code != 1), 21);
+    let n = try_rule(n, further & !collects, 21);
     let n = try_rule(n, further & (h.data_follows() != m.databit), 22);
     try_rule(n, command & is_long(m.held, h.length), 23)
 }
@@ -120,8 +121,7 @@ pub fn last_number(h: Header, m: Met, payload: &[u8]) -> u8
     ensures { λ r. ⌜ r ≡ firstBroken lastRules (framed h (now (payload .entry))) (viewed m h []) ⌝ }
 {
     let phase = m.phase;
-    let code = requests::phase_code(phase);
-    let n = try_rule(0, (h.kind == 2) & (code != 2), 27);
+    let n = try_rule(0, (h.kind == 2) & !requests::takes_data(phase), 27);
     let n = try_rule(n, (h.kind == 9) & !h.begins(), 28);
     try_rule(n, is_unread(h, payload), 29)
 }

@@ -54,7 +54,7 @@ fn checked_command(random: &mut Random) -> Vec<u8> {
 }
 
 /// A capture of the line with commands for a board, some of them in two frames, some
-/// with data.
+/// with data, which now and then does not come to its end.
 pub fn board_capture(seed: u64, index: u64) -> Vec<u8> {
     let start = Random::new(seed ^ 0xb0ac).next() ^ Random::new(!index).next();
     let random = &mut Random::new(start);
@@ -76,7 +76,9 @@ pub fn board_capture(seed: u64, index: u64) -> Vec<u8> {
         } else {
             frame(id, begin, 0x11 | data, &command);
         }
-        if data != 0 {
+        let pieces = if data != 0 { random.below(3) } else { 0 };
+        (0..pieces).for_each(|_| frame(id, 0, 0x21, b"more"));
+        if data != 0 && random.percent(75) {
             frame(id, 0, 0x22, b"data");
         }
     }

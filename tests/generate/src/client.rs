@@ -31,6 +31,7 @@ pub enum Phase {
     Collecting,
     Waiting,
     Running,
+    Draining,
 }
 
 pub struct Request {
@@ -119,12 +120,13 @@ impl Client {
     pub fn act(&mut self, random: &mut Random) {
         let mut done = false;
         while !done {
-            done = match random.below(18) {
+            done = match random.below(20) {
                 0..=3 => self.begin(random),
                 4..=8 => self.carry_on(random),
-                9..=12 => self.data(random),
-                13 => self.settings(random),
-                14..=16 => self.finish(random),
+                9..=13 => self.data(random),
+                14 => self.settings(random),
+                15..=17 => self.finish(random),
+                18 => self.finish_early(random),
                 _ => self.finish_in_vain(random),
             };
         }
@@ -190,15 +192,21 @@ impl Client {
         if self.requests.len() == SLOTS {
             return false;
         }
-        let command = good_command(random);
-        let frames = random.pick(&[1, 1, 1, 2, 2, 3, 5]);
-        self.begin_with(command, frames, random);
+        let id = self.idle_id(random);
+        self.begin_as(id, random);
         true
     }
 
-    pub fn begin_with(&mut self, command: Vec<u8>, frames: usize, random: &mut Random) {
+    /// A good command with this id, which is idle; a slot is free.
+    pub fn begin_as(&mut self, id: u16, random: &mut Random) {
+        let command = good_command(random);
+        let frames = random.pick(&[1, 1, 1, 2, 2, 3, 5]);
+        self.begin_with(id, command, frames, random);
+    }
+
+    pub fn begin_with(&mut self, id: u16, command: Vec<u8>, frames: usize, random: &mut Random) {
         self.requests.push(Request {
-            id: self.idle_id(random),
+            id,
             phase: Phase::Collecting,
             data: random.percent(50),
             command,
@@ -246,7 +254,8 @@ impl Client {
     }
 
     fn data(&mut self, random: &mut Random) -> bool {
-        let place = self.some(random, Some(Phase::Waiting));
+        let phase = random.pick(&[Phase::Waiting, Phase::Waiting, Phase::Draining]);
+        let place = self.some(random, Some(phase));
         if let Some(place) = place {
             let count = match random.below(300) {
                 0 => random.pick(&[LONGEST_PAYLOAD, LONGEST_PAYLOAD - 1]),
@@ -263,16 +272,21 @@ impl Client {
         place.is_some()
     }
 
+    /// Data of a request that waits, or of one that drains, which makes no record.
     pub fn send_data(&mut self, place: usize, count: usize, last: bool, random: &mut Random) {
         let payload = random.bytes(count);
         let stream = self.address(random);
         let request = &mut self.requests[place];
+        let (id, drains) = (request.id, request.phase == Phase::Draining);
         if last {
             request.phase = Phase::Running;
         }
-        let id = request.id;
+        if last && drains {
+            self.requests.swap_remove(place);
+        }
         let flags = if last { 2 } else { 1 };
-        self.send(id, stream, DATA << 4 | flags, &payload, RECORD_HEAD + count);
+        let record = if drains { 0 } else { RECORD_HEAD + count };
+        self.send(id, stream, DATA << 4 | flags, &payload, record);
     }
 
     pub fn settings(&mut self, random: &mut Random) -> bool {
@@ -296,9 +310,9 @@ impl Client {
         place.is_some()
     }
 
-    /// A finish of an id that is not running.
+    /// A finish of an id that neither runs nor waits.
     pub fn finish_in_vain(&mut self, random: &mut Random) -> bool {
-        let phase = random.pick(&[Phase::Collecting, Phase::Waiting]);
+        let phase = random.pick(&[Phase::Collecting, Phase::Draining]);
         let held = self.some(random, Some(phase));
         let id = match held {
             Some(place) if random.percent(70) => self.requests[place].id,

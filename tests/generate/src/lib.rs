@@ -10,6 +10,7 @@ mod captures;
 mod client;
 mod commands;
 mod cuts;
+mod drains;
 mod faults;
 pub mod fixed;
 mod garbled;
@@ -36,7 +37,7 @@ pub use keys::key_command;
 pub use logs::{conversion, Conversion};
 pub use random::Random;
 pub use sends::{sending, Sending, FAULTS};
-pub use sessions::session;
+pub use sessions::{drain_session, session};
 
 /// A command, and a key to look up in it.
 pub struct Case {

@@ -64,6 +64,22 @@ pub fn add(client: &mut Client, random: &mut Random, number: u8) {
     client.steps.push(Step::Frame { bytes, record: 0 });
 }
 
+/// The same of a frame that is refused for a request that drains, or for one whose drain
+/// has just ended.
+pub fn add_for_drain(client: &mut Client, random: &mut Random) {
+    let id = draining_id(client, random);
+    let bytes = match random.below(4) {
+        0 => new_of(client, random, id),
+        1 => ninth(client, random),
+        2 => continuation_of(client, random, id),
+        _ => {
+            let id = drained_id(client, random);
+            data_of(client, random, id)
+        }
+    };
+    client.steps.push(Step::Frame { bytes, record: 0 });
+}
+
 /// Breaks one of the rules 12 to 18 in the header of a good frame.
 fn spoil(bytes: &mut [u8], number: u8, random: &mut Random) {
     match number {
@@ -110,35 +126,58 @@ fn other_flags(random: &mut Random) -> u8 {
 
 const SHORT: &[u8] = b"\xa2\x44name\x43set\x44args\xa0";
 
+/// An id that drains is active too.
 fn new_of_active(client: &mut Client, random: &mut Random) -> Vec<u8> {
-    while client.requests.is_empty() {
-        client.begin(random);
-    }
-    let id = random.pick(
-        &client
-            .requests
-            .iter()
-            .map(|held| held.id)
-            .collect::<Vec<_>>(),
-    );
+    let id = match random.percent(40) {
+        true => draining_id(client, random),
+        false => active_id(client, random),
+    };
+    new_of(client, random, id)
+}
+
+fn new_of(client: &Client, random: &mut Random, id: u16) -> Vec<u8> {
     let flags = NEW | other_flags(random);
     command(client, random, id, flags, SHORT)
 }
 
-/// A ninth open request. Half the time the client finishes one first.
+fn active_id(client: &mut Client, random: &mut Random) -> u16 {
+    loop {
+        if let Some(place) = client.some(random, None) {
+            return client.requests[place].id;
+        }
+        client.begin(random);
+    }
+}
+
+fn draining_id(client: &mut Client, random: &mut Random) -> u16 {
+    let place = client.wait_for(random, Phase::Draining);
+    client.requests[place].id
+}
+
+/// An id whose drain has just ended.
+fn drained_id(client: &mut Client, random: &mut Random) -> u16 {
+    let place = client.wait_for(random, Phase::Draining);
+    client.end_drain(place, random)
+}
+
+/// A ninth open request. Half the time the client finishes one first, and half the
+/// time one of the eight drains.
 fn ninth(client: &mut Client, random: &mut Random) -> Vec<u8> {
+    if random.percent(50) {
+        client.wait_for(random, Phase::Draining);
+    }
     while client.begin(random) {}
     if random.percent(50) && client.finish(random) {
         client.begin(random);
     }
     let id = client.idle_id(random);
-    let flags = NEW | other_flags(random);
-    command(client, random, id, flags, SHORT)
+    new_of(client, random, id)
 }
 
-/// An id that no request has, or one in a phase other than this.
-fn id_in_other_phase(client: &Client, random: &mut Random, phase: Phase) -> u16 {
-    let others = client.requests.iter().filter(|held| held.phase != phase);
+/// An id that no request has, or one in a phase other than these.
+fn id_in_other_phase(client: &Client, random: &mut Random, phases: &[Phase]) -> u16 {
+    let held = client.requests.iter();
+    let others = held.filter(|held| !phases.contains(&held.phase));
     let ids: Vec<u16> = others.map(|held| held.id).collect();
     if ids.is_empty() || random.percent(30) {
         client.idle_id(random)
@@ -148,23 +187,20 @@ fn id_in_other_phase(client: &Client, random: &mut Random, phase: Phase) -> u16 
 }
 
 fn continuation_of_other(client: &mut Client, random: &mut Random) -> Vec<u8> {
-    let id = id_in_other_phase(client, random, Phase::Collecting);
+    let id = match random.percent(30) {
+        true => draining_id(client, random),
+        false => id_in_other_phase(client, random, &[Phase::Collecting]),
+    };
+    continuation_of(client, random, id)
+}
+
+fn continuation_of(client: &Client, random: &mut Random, id: u16) -> Vec<u8> {
     let flags = CONTINUATION | other_flags(random);
     command(client, random, id, flags, SHORT)
 }
 
-/// The place of a request that is collecting.
-fn collecting(client: &mut Client, random: &mut Random) -> usize {
-    loop {
-        if let Some(place) = client.some(random, Some(Phase::Collecting)) {
-            return place;
-        }
-        client.act(random);
-    }
-}
-
 fn other_data_bit(client: &mut Client, random: &mut Random) -> Vec<u8> {
-    let place = collecting(client, random);
+    let place = client.wait_for(random, Phase::Collecting);
     let held = &client.requests[place];
     let (id, rest) = (held.id, held.command[held.sent..].to_vec());
     let data = if held.data { 0 } else { WITH_DATA };
@@ -189,7 +225,8 @@ fn over_long(client: &mut Client, random: &mut Random) -> Vec<u8> {
     }
     free_slot(client, random);
     let first = random.between(1, LONGEST_COMMAND);
-    client.begin_with(long[..first].to_vec(), 2, random);
+    let id = client.idle_id(random);
+    client.begin_with(id, long[..first].to_vec(), 2, random);
     let held = client.requests.last().expect("it has just begun");
     let rest = &long[held.sent..];
     let data = if held.data { WITH_DATA } else { 0 };
@@ -214,7 +251,8 @@ fn faulty_command(client: &mut Client, random: &mut Random, number: u8) -> Vec<u
     bytes.truncate(LONGEST_COMMAND);
     free_slot(client, random);
     let frames = random.pick(&[1, 1, 2, 3]);
-    client.begin_with(bytes, frames, random);
+    let id = client.idle_id(random);
+    client.begin_with(id, bytes, frames, random);
     let place = client.requests.len() - 1;
     while client.requests[place].phase == Phase::Collecting {
         client.piece(place, CONTINUATION, random);
@@ -239,7 +277,14 @@ fn free_slot(client: &mut Client, random: &mut Random) {
 }
 
 fn data_of_other(client: &mut Client, random: &mut Random) -> Vec<u8> {
-    let id = id_in_other_phase(client, random, Phase::Waiting);
+    let id = match random.percent(40) {
+        true => drained_id(client, random),
+        false => id_in_other_phase(client, random, &[Phase::Waiting, Phase::Draining]),
+    };
+    data_of(client, random, id)
+}
+
+fn data_of(client: &Client, random: &mut Random, id: u16) -> Vec<u8> {
     let stream = client.address(random);
     let count = random.pick(&[0, 1, 20]);
     let payload = random.bytes(count);

@@ -9,16 +9,16 @@ use crate::sizes::{
     LARGEST_AREA, LEAST_OUTPUT, LONGEST_COMMAND, LONGEST_LINE, LONGEST_PAYLOAD, LONGEST_SENT,
     PARTS, SLOTS, WORK,
 };
-use crate::starts::{break_count, break_shape, heal, seated, Seated, WAYS};
+use crate::starts::{break_count, break_drain, break_shape, heal, seated, Seated, WAYS};
 
 /// The session of this seed and index. It lends a work area before its first
 /// call, so that nothing of an earlier session stays.
 pub fn session(seed: u64, index: u64) -> Vec<String> {
-    let start = Random::new(seed ^ 0x5e55).next() ^ Random::new(!index).next();
-    let random = &mut Random::new(start);
+    let random = &mut random_of(seed, index);
     let mut lines = vec![format!("# session {index} of seed {seed}")];
     match random.below(100) {
-        0..=55 => fresh_talk(random, &mut lines),
+        0..=52 => fresh_talk(random, &mut lines),
+        53..=55 => drain_talk(random, &mut lines),
         56..=58 => wrong_count(random, &mut lines),
         59..=80 => seated_talk(random, &mut lines),
         81..=88 => out_of_shape(random, &mut lines),
@@ -29,9 +29,27 @@ pub fn session(seed: u64, index: u64) -> Vec<String> {
         98 => unreadable(random, &mut lines),
         _ => noise(random, &mut lines),
     }
+    last_looks(random, &mut lines);
+    lines
+}
+
+/// The same, of the kind that drains.
+pub fn drain_session(seed: u64, index: u64) -> Vec<String> {
+    let random = &mut random_of(seed, index);
+    let mut lines = vec![format!("# drain session {index} of seed {seed}")];
+    drain_talk(random, &mut lines);
+    last_looks(random, &mut lines);
+    lines
+}
+
+fn random_of(seed: u64, index: u64) -> Random {
+    let start = Random::new(seed ^ 0x5e55).next() ^ Random::new(!index).next();
+    Random::new(start)
+}
+
+fn last_looks(random: &mut Random, lines: &mut Vec<String>) {
     lines.extend(["state", "tail", "worksum", "active"].map(String::from));
     lines.push(row(random));
-    lines
 }
 
 /// A work area that is long enough.
@@ -51,6 +69,33 @@ fn fresh_talk(random: &mut Random, lines: &mut Vec<String>) {
     talk(client, random, lines);
     if random.percent(10) {
         poke_between(random, lines);
+    }
+}
+
+/// Drains, and then a talk, or a frame that is refused for a drain; at times a draining
+/// slot out of shape (E8).
+fn drain_talk(random: &mut Random, lines: &mut Vec<String>) {
+    lend(random, lines);
+    let mut client = Client::default();
+    for _ in 0..random.between(1, 3) {
+        client.drain_whole(random);
+    }
+    if random.percent(50) {
+        talk(client, random, lines);
+    } else {
+        refused::add_for_drain(&mut client, random);
+        cut(client.steps, random, lines);
+    }
+    if random.percent(40) {
+        let Seated {
+            mut start,
+            client,
+            pokes,
+        } = seated(random);
+        lines.extend(pokes);
+        break_drain(&mut start, random);
+        lines.push(start.line());
+        calls(&client, random, lines);
     }
 }
 
@@ -240,12 +285,13 @@ fn long_talk(random: &mut Random, lines: &mut Vec<String>) {
 fn heavy_talk(random: &mut Random, lines: &mut Vec<String>) {
     lend(random, lines);
     let mut client = Client::default();
-    let place = loop {
-        client.act(random);
-        if let Some(place) = client.some(random, Some(Phase::Waiting)) {
-            break place;
-        }
+    let drains = random.percent(15);
+    let phase = if drains {
+        Phase::Draining
+    } else {
+        Phase::Waiting
     };
+    let place = client.wait_for(random, phase);
     for _ in 0..random.between(2, 7) {
         let any = random.between(LONGEST_SENT + 1, LONGEST_PAYLOAD);
         let longest = LONGEST_PAYLOAD - random.pick(&[0, 0, 0, 1]);
@@ -261,8 +307,8 @@ fn heavy_talk(random: &mut Random, lines: &mut Vec<String>) {
         2 => client.act(random),
         _ => {}
     }
-    match random.below(2) {
-        0 => cut_large(client.steps, random, lines),
+    match random.below(3) {
+        0 | 1 => cut_large(client.steps, random, lines),
         _ => cut(client.steps, random, lines),
     }
 }
@@ -284,7 +330,7 @@ fn lookups(seed: u64, index: u64, random: &mut Random, lines: &mut Vec<String>) 
     lend(random, lines);
 }
 
-const UNREADABLE: [&str; 44] = [
+const UNREADABLE: [&str; 45] = [
     "fresh",
     "fresh 100001",
     "fresh 90000 256",
@@ -327,6 +373,7 @@ const UNREADABLE: [&str; 44] = [
     "set 0 0 0:f:0:0 - 0",
     "set 256 0 0:f:0:0 0:f:0:0 0:f:0:0 0:f:0:0 0:f:0:0 0:f:0:0 0:f:0:0 0:f:0:0 - 0",
     "set 0 16777216 0:f:0:0 0:f:0:0 0:f:0:0 0:f:0:0 0:f:0:0 0:f:0:0 0:f:0:0 0:f:0:0 - 0",
+    "set 0 0 1:e:1:0 0:f:0:0 0:f:0:0 0:f:0:0 0:f:0:0 0:f:0:0 0:f:0:0 0:f:0:0 - 1",
     "set 0 0 1:c:0:65536 0:f:0:0 0:f:0:0 0:f:0:0 0:f:0:0 0:f:0:0 0:f:0:0 0:f:0:0 - 1",
     "set 0 0 0:f:0:0 0:f:0:0 0:f:0:0 0:f:0:0 0:f:0:0 0:f:0:0 0:f:0:0 0:f:0:0 - 256",
 ];

@@ -140,6 +140,7 @@ impl Seated {
             (Phase::Collecting, 'c'),
             (Phase::Waiting, 'w'),
             (Phase::Running, 'r'),
+            (Phase::Draining, 'd'),
         ]);
         let mut drawn = Client::default();
         drawn.begin(random);
@@ -152,7 +153,7 @@ impl Seated {
         let request = Request {
             id: self.client.idle_id(random),
             phase,
-            data: phase == Phase::Waiting || random.percent(50),
+            data: matches!(phase, Phase::Waiting | Phase::Draining) || random.percent(50),
             command,
             sent,
             frames: random.between(1, 3),
@@ -189,7 +190,9 @@ impl Seated {
     /// Only the last byte of a longest frame is still to come, or a few bytes. Of
     /// its payload, what has come is what stands in the work area.
     fn before_last_byte(&mut self, random: &mut Random) {
-        if let Some(place) = self.client.some(random, Some(Phase::Waiting)) {
+        let phase = random.pick(&[Phase::Waiting, Phase::Draining]);
+        let waiting = self.client.some(random, Some(Phase::Waiting));
+        if let Some(place) = self.client.some(random, Some(phase)).or(waiting) {
             let last = random.percent(50);
             self.client.send_data(place, LONGEST_PAYLOAD, last, random);
             if let Some(Step::Frame { bytes, record }) = self.client.steps.pop() {
@@ -212,7 +215,7 @@ impl Seated {
 }
 
 /// The ways to be out of shape.
-pub const WAYS: usize = 14;
+pub const WAYS: usize = 16;
 
 /// Puts a state out of shape, at times with a poke that belongs to it. The count is
 /// then that of the slots, so that it is no other way.
@@ -259,7 +262,9 @@ fn break_one(start: &mut Start, way: usize, random: &mut Random) -> Option<Strin
             used(start, 'r', data, random.pick(&[1, longest]), random);
         }
         11 => used(start, 'w', false, 0, random),
-        12 => return Some(held_above(start, random)),
+        12 => used(start, 'd', true, random.pick(&[1, longest]), random),
+        13 => used(start, 'd', false, 0, random),
+        14 => return Some(held_above(start, random)),
         _ => return Some(pending_past(start, random)),
     }
     None
@@ -285,8 +290,19 @@ fn used(start: &mut Start, phase: char, data: bool, length: u64, random: &mut Ra
     };
 }
 
+/// The phases and data bits of slots that are in use, with a length of 0.
+const IN_SHAPE: [(char, bool); 7] = [
+    ('c', false),
+    ('c', true),
+    ('w', true),
+    ('r', false),
+    ('r', true),
+    ('d', true),
+    ('d', true),
+];
+
 fn used_in_shape(start: &mut Start, random: &mut Random) {
-    let (phase, data) = random.pick(&[('c', false), ('c', true), ('w', true), ('r', false)]);
+    let (phase, data) = random.pick(&IN_SHAPE);
     used(start, phase, data, 0, random);
 }
 
@@ -296,7 +312,7 @@ fn double(start: &mut Start, random: &mut Random) {
     let first = random.below(SLOTS);
     let second = (first + random.between(1, SLOTS - 1)) % SLOTS;
     for seat in [first, second] {
-        let (phase, data) = random.pick(&[('c', false), ('c', true), ('w', true), ('r', true)]);
+        let (phase, data) = random.pick(&IN_SHAPE);
         start.slots[seat] = Slot {
             id,
             phase,
@@ -304,6 +320,36 @@ fn double(start: &mut Start, random: &mut Random) {
             length: 0,
         };
     }
+}
+
+/// A draining slot that is out of shape: without its data bit, with a length, with an
+/// even id, or with the id of another slot.
+pub fn break_drain(start: &mut Start, random: &mut Random) {
+    let id = start.idle_id(random);
+    let mut slot = Slot {
+        id,
+        phase: 'd',
+        data: true,
+        length: 0,
+    };
+    let seat = random.below(SLOTS);
+    match random.below(4) {
+        0 => slot.data = false,
+        1 => slot.length = random.pick(&[1, LONGEST_COMMAND as u64]),
+        2 => slot.id = random.pick(&[0, 2, 0x0100, 0xfffe]),
+        _ => {
+            let (phase, data) = random.pick(&IN_SHAPE);
+            let other = (seat + random.between(1, SLOTS - 1)) % SLOTS;
+            start.slots[other] = Slot {
+                id,
+                phase,
+                data,
+                length: 0,
+            };
+        }
+    }
+    start.slots[seat] = slot;
+    start.count = start.right_count();
 }
 
 /// A header that claims `length` bytes of payload.

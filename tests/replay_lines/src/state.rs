@@ -7,11 +7,12 @@ use second::bytes::{MOST_LENGTH, MOST_PENDING};
 use second::state::{Phase, Slot, State};
 use std::collections::BTreeSet;
 
-const LETTERS: [(u8, Phase); 4] = [
+const LETTERS: [(u8, Phase); 5] = [
     (b'f', Phase::Free),
     (b'c', Phase::Collecting),
     (b'w', Phase::Waiting),
     (b'r', Phase::Running),
+    (b'd', Phase::Draining),
 ];
 
 /// The state that these words spell, if each number fits its field.

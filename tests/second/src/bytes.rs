@@ -72,6 +72,7 @@ fn slot(bytes: &[u8]) -> Option<Slot> {
             1 => Phase::Collecting,
             2 => Phase::Waiting,
             3 => Phase::Running,
+            4 => Phase::Draining,
             _ => return None,
         },
         data: flag(&bytes[3])?,
@@ -106,6 +107,7 @@ mod tests {
             data: true,
             length: 0x0506,
         };
+        state.slots[6].phase = Phase::Draining;
         state.slots[7].phase = Phase::Waiting;
         state.open.extend([1, 255]);
         state.count = 0x89;
@@ -118,8 +120,8 @@ mod tests {
         assert_eq!((STREAMS_AT, COUNT_AT, STATE), (52, 180, 181));
         assert_eq!(bytes.len(), STATE);
         assert_eq!(bytes[..10], [200, 0x34, 0x12, 0x56, 3, 2, 3, 1, 6, 5]);
-        assert_eq!(bytes[10..46], [0; 36]);
-        assert_eq!(bytes[46..52], [0, 0, 2, 0, 0, 0]);
+        assert_eq!(bytes[10..40], [0; 30]);
+        assert_eq!(bytes[40..52], [0, 0, 4, 0, 0, 0, 0, 0, 2, 0, 0, 0]);
         let streams = [&[1][..], &[0; 126], &[1]].concat();
         assert_eq!(bytes[STREAMS_AT..COUNT_AT], streams);
         assert_eq!(bytes[COUNT_AT..], [0x89]);
@@ -143,7 +145,8 @@ mod tests {
         for (place, byte, is_state) in [
             (3, 255, true),
             (6, 3, true),
-            (6, 4, false),
+            (6, 4, true),
+            (6, 5, false),
             (7, 2, false),
             (48, 255, false),
             (STREAMS_AT, 2, false),

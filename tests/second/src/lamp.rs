@@ -49,18 +49,19 @@ mod tests {
         let slot = |id: u16, phase: Phase| Slot {
             id,
             phase,
-            data: phase == Phase::Waiting,
+            data: matches!(phase, Phase::Waiting | Phase::Draining),
             length: 0,
         };
         state.slots[1] = slot(0x0201, Phase::Collecting);
         state.slots[3] = slot(5, Phase::Waiting);
+        state.slots[4] = slot(7, Phase::Draining);
         state.slots[7] = slot(0xffff, Phase::Running);
-        state.count = 3;
+        state.count = 4;
         state
     }
 
     const BUSY: [u8; ROW] = [
-        0, 0, 0, 1, 2, 1, 0, 0, 0, 5, 0, 2, 0, 0, 0, 0, 0, 0, 0, 0, 0, 0xff, 0xff, 3,
+        0, 0, 0, 1, 2, 1, 0, 0, 0, 5, 0, 2, 7, 0, 4, 0, 0, 0, 0, 0, 0, 0xff, 0xff, 3,
     ];
 
     /// Live and dead, at every length.
@@ -79,7 +80,7 @@ mod tests {
                     assert_eq!((number, first), (0, &BUSY[..]));
                 }
             }
-            assert_eq!(active(&state), (0, 3));
+            assert_eq!(active(&state), (0, 4));
         }
     }
 
@@ -88,8 +89,8 @@ mod tests {
     fn out_of_shape() {
         let shapeless = [
             State { dead: 10, ..busy() },
-            State { count: 2, ..busy() },
-            State { count: 4, ..busy() },
+            State { count: 3, ..busy() },
+            State { count: 5, ..busy() },
             State {
                 pending: PENDING + 1,
                 ..busy()

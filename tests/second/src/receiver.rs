@@ -1,9 +1,9 @@
 //! The receiver, twice.
 //!
 //! `Receiver` takes the calls. It has no slots and no stream table: it keeps
-//! the list of the frames accepted and of the finishes that freed a slot,
-//! and each rule is a question about that list. A start that is not fresh
-//! becomes a list of frames that leads to it.
+//! the list of the frames and of the finishes accepted, and each rule is a
+//! question about that list. A start that is not fresh becomes a list that
+//! leads to it.
 //!
 //! `Uncut` is the plain receiver of the uncut reading. It has no calls with
 //! inputs and outputs, takes the bytes singly, and works on a state in place.
@@ -22,8 +22,10 @@ use std::mem::take;
 pub enum Event {
     /// An accepted frame.
     Frame(Frame),
-    /// A finish that was answered 0.
+    /// A finish of a running id.
     Finish(u16),
+    /// A finish of an id that was waiting for data (E8).
+    Drain(u16),
 }
 
 impl Event {
@@ -32,22 +34,21 @@ impl Event {
     fn concerns(&self, id: u16) -> bool {
         match self {
             Event::Frame(frame) => frame.kind() != SETTINGS && frame.request() == id,
-            Event::Finish(finished) => *finished == id,
+            Event::Finish(finished) | Event::Drain(finished) => *finished == id,
         }
     }
 
-    /// The phase of a request after a step in its life. Each step settles
-    /// it, whatever came before.
-    fn phase_after(&self) -> Phase {
+    /// The phase of a request after a step in its life. Each step but data
+    /// settles it, whatever came before.
+    fn phase_after(&self, before: Phase) -> Phase {
         match self {
             Event::Finish(_) => Phase::Free,
-            Event::Frame(frame) if frame.kind() == DATA => {
-                if frame.flags() == LAST_DATA {
-                    Phase::Running
-                } else {
-                    Phase::Waiting
-                }
-            }
+            Event::Drain(_) => Phase::Draining,
+            Event::Frame(frame) if frame.kind() == DATA => match (frame.flags(), before) {
+                (LAST_DATA, Phase::Draining) => Phase::Free,
+                (LAST_DATA, _) => Phase::Running,
+                _ => before,
+            },
             Event::Frame(frame) if !frame.makes_whole() => Phase::Collecting,
             Event::Frame(frame) if frame.is_command(WITH_DATA) => Phase::Waiting,
             Event::Frame(_) => Phase::Running,
@@ -57,8 +58,14 @@ impl Event {
     fn frame(&self) -> Option<&Frame> {
         match self {
             Event::Frame(frame) => Some(frame),
-            Event::Finish(_) => None,
+            Event::Finish(_) | Event::Drain(_) => None,
         }
+    }
+
+    /// Whether this is the last data frame of request `id`.
+    fn ends_data(&self, id: u16) -> bool {
+        let data = self.frame().filter(|frame| frame.kind() == DATA);
+        data.is_some_and(|frame| frame.request() == id && frame.flags() == LAST_DATA)
     }
 }
 
@@ -94,6 +101,10 @@ impl History {
                         history.lead(Frame::last_data(slot.id));
                     }
                 }
+                Phase::Draining => {
+                    history.lead(Frame::command(slot.id, NEW | data, &[]));
+                    history.events.push(Event::Drain(slot.id));
+                }
             }
         }
         for stream in &state.open {
@@ -110,34 +121,35 @@ impl History {
         self.events.iter().filter_map(Event::frame)
     }
 
+    fn news(&self) -> impl Iterator<Item = &Frame> {
+        self.frames().filter(|frame| frame.is_command(NEW))
+    }
+
     fn phase(&self, id: u16) -> Phase {
-        let mut steps = self.events.iter().rev();
-        steps
-            .find(|event| event.concerns(id))
-            .map_or(Phase::Free, Event::phase_after)
+        let steps = self.events.iter().filter(|event| event.concerns(id));
+        steps.fold(Phase::Free, |phase, event| event.phase_after(phase))
     }
 
     fn active(&self) -> BTreeSet<u16> {
-        let mut active = BTreeSet::new();
-        for event in &self.events {
-            match event {
-                Event::Frame(frame) if frame.is_command(NEW) => {
-                    active.insert(frame.request());
-                }
-                Event::Frame(_) => {}
-                Event::Finish(id) => {
-                    active.remove(id);
-                }
-            }
-        }
+        let mut active: BTreeSet<u16> = self.news().map(Frame::request).collect();
+        active.retain(|id| self.phase(*id) != Phase::Free);
         active
     }
 
-    /// New frames accepted minus finishes accepted.
+    /// New frames accepted minus finishes of running ids minus drains ended.
     fn count(&self) -> u8 {
-        let news = self.frames().filter(|frame| frame.is_command(NEW));
-        let finishes = self.events.len() - self.frames().count();
-        (news.count() - finishes) as u8
+        let is_finish = |event: &&Event| matches!(event, Event::Finish(_));
+        let finishes = self.events.iter().filter(is_finish).count();
+        (self.news().count() - finishes - self.drains_ended()) as u8
+    }
+
+    /// How many drains have the last data frame of their id behind them.
+    fn drains_ended(&self) -> usize {
+        let ended = |place: &usize| match &self.events[*place] {
+            Event::Drain(id) => self.events[*place..].iter().any(|step| step.ends_data(*id)),
+            _ => false,
+        };
+        (0..self.events.len()).filter(ended).count()
     }
 
     fn is_open(&self, stream: u8) -> bool {
@@ -217,7 +229,7 @@ impl History {
             let data = u8::from(frame.is_command(WITH_DATA));
             let mark = u8::from(command::loose(&command));
             record(1, frame.request(), mark << 1 | data, &command)
-        } else if frame.kind() == DATA {
+        } else if frame.kind() == DATA && self.phase(frame.request()) != Phase::Draining {
             let last = u8::from(frame.flags() == LAST_DATA);
             record(2, frame.request(), last, frame.payload())
         } else {
@@ -234,11 +246,31 @@ impl History {
     }
 
     fn accept(&mut self, frame: Frame) {
+        let id = frame.request();
         if frame.is_command(NEW) {
-            let seat = self.seat(frame.request());
-            self.seats.insert(frame.request(), seat);
+            let seat = self.seat(id);
+            self.seats.insert(id, seat);
         }
-        self.events.push(Event::Frame(frame));
+        self.add(id, Event::Frame(frame));
+    }
+
+    /// The number of a finish on a live channel.
+    fn finish(&mut self, id: u16) -> u8 {
+        let event = match self.phase(id) {
+            Phase::Running => Event::Finish(id),
+            Phase::Waiting => Event::Drain(id),
+            _ => return 4,
+        };
+        self.add(id, event);
+        0
+    }
+
+    /// An id that is then not active has no slot.
+    fn add(&mut self, id: u16, event: Event) {
+        self.events.push(event);
+        if self.phase(id) == Phase::Free {
+            self.seats.remove(&id);
+        }
     }
 
     fn slots(&self) -> [Slot; SLOTS] {
@@ -301,7 +333,8 @@ const RULES: [(u8, Broken); 18] = [
     (25, |past, frame| past.check_gives(frame, 25)),
     (26, |past, frame| past.check_gives(frame, 26)),
     (27, |past, frame| {
-        frame.kind() == DATA && past.phase(frame.request()) != Phase::Waiting
+        let phase = past.phase(frame.request());
+        frame.kind() == DATA && phase != Phase::Waiting && phase != Phase::Draining
     }),
     (28, |_, frame| frame.kind() == SETTINGS && !frame.begins()),
     (29, |_, frame| {
@@ -393,7 +426,7 @@ impl Receiver {
         &self.work
     }
 
-    /// Frames that lead to the start, then what has been accepted since.
+    /// What leads to the start, then what has been accepted since.
     pub fn history(&self) -> &[Event] {
         &self.history.events
     }
@@ -506,12 +539,8 @@ impl Receiver {
             3
         } else if self.dead != 0 {
             self.dead
-        } else if self.history.phase(id) != Phase::Running {
-            4
         } else {
-            self.history.events.push(Event::Finish(id));
-            self.history.seats.remove(&id);
-            0
+            self.history.finish(id)
         }
     }
 }
@@ -633,13 +662,18 @@ impl Uncut {
         refuse_if(!matches!(frame.flags(), 1 | 2), 18)?;
         let seat = self.slot_of(frame.request()).ok_or(27)?;
         let slot = &mut self.state.slots[seat];
-        refuse_if(slot.phase != Phase::Waiting, 27)?;
+        let drains = slot.phase == Phase::Draining;
+        refuse_if(!drains && slot.phase != Phase::Waiting, 27)?;
         let last = frame.flags() == 2;
-        if last {
-            slot.phase = Phase::Running;
+        match (last, drains) {
+            (false, _) => {}
+            (true, false) => slot.phase = Phase::Running,
+            (true, true) => self.free(seat),
         }
-        let data_record = record(2, frame.request(), last.into(), frame.payload());
-        self.records.extend(data_record);
+        if !drains {
+            let data_record = record(2, frame.request(), last.into(), frame.payload());
+            self.records.extend(data_record);
+        }
         Ok(())
     }
 
@@ -652,14 +686,20 @@ impl Uncut {
         if self.state.dead != 0 {
             return self.state.dead;
         }
-        match self.slot_of(id) {
-            Some(seat) if self.state.slots[seat].phase == Phase::Running => {
-                self.state.slots[seat] = Slot::FREE;
-                self.state.count -= 1;
-                0
-            }
-            _ => 4,
+        let Some(seat) = self.slot_of(id) else {
+            return 4;
+        };
+        match self.state.slots[seat].phase {
+            Phase::Running => self.free(seat),
+            Phase::Waiting => self.state.slots[seat].phase = Phase::Draining,
+            _ => return 4,
         }
+        0
+    }
+
+    fn free(&mut self, seat: usize) {
+        self.state.slots[seat] = Slot::FREE;
+        self.state.count -= 1;
     }
 }
 

@@ -317,7 +317,7 @@ pub fn to_hex(bytes: &[u8]) -> String {
 /// An entry of a row, with a space before it.
 fn entry_text(entry: &[u8]) -> String {
     let id = u16::from_le_bytes([entry[0], entry[1]]);
-    let phase = "fcwr".chars().nth(entry[2].into()).unwrap_or('x');
+    let phase = "fcwrd".chars().nth(entry[2].into()).unwrap_or('x');
     format!(" {id}:{phase}")
 }
 
@@ -347,6 +347,7 @@ fn slot(word: &str) -> Option<Slot> {
             "c" => Phase::Collecting,
             "w" => Phase::Waiting,
             "r" => Phase::Running,
+            "d" => Phase::Draining,
             _ => return None,
         },
         data: bit(data)?,
@@ -379,6 +380,7 @@ pub fn state_text(state: &State) -> String {
             Phase::Collecting => 'c',
             Phase::Waiting => 'w',
             Phase::Running => 'r',
+            Phase::Draining => 'd',
         };
         let (id, data, length) = (slot.id, u8::from(slot.data), slot.length);
         text += &format!(" {id}:{phase}:{data}:{length}");
@@ -508,22 +510,22 @@ mod tests {
     #[test]
     fn rows() {
         let mut replay = Replay::default();
-        let slots = "1:c:0:0 0:f:0:0 3:w:1:0 5:r:0:0 0:f:0:0 0:f:0:0 0:f:0:0 65535:r:1:0";
-        let entries = " 1:c 0:f 3:w 5:r 0:f 0:f 0:f 65535:r";
+        let slots = "1:c:0:0 0:f:0:0 3:w:1:0 5:r:0:0 0:f:0:0 7:d:1:0 0:f:0:0 65535:r:1:0";
+        let entries = " 1:c 0:f 3:w 5:r 0:f 7:d 0:f 65535:r";
         let kept = " 65535:x";
         for (line, answer) in [
             ("active".to_string(), "active 0 0".to_string()),
             ("row 8".to_string(), format!("row 0{}", " 0:f".repeat(8))),
-            (format!("set 0 0 {slots} - 4"), "set".to_string()),
-            ("active".to_string(), "active 0 4".to_string()),
+            (format!("set 0 0 {slots} - 5"), "set".to_string()),
+            ("active".to_string(), "active 0 5".to_string()),
             ("row 0".to_string(), "row 9".to_string()),
             ("row 7".to_string(), format!("row 9{}", kept.repeat(7))),
             ("row 8".to_string(), format!("row 0{entries}")),
             ("row 9".to_string(), format!("row 0{entries}{kept}")),
-            (format!("set 29 0 {slots} - 4"), "set".to_string()),
-            ("active".to_string(), "active 0 4".to_string()),
-            ("row 10".to_string(), format!("row 0{entries}{kept}{kept}")),
             (format!("set 29 0 {slots} - 5"), "set".to_string()),
+            ("active".to_string(), "active 0 5".to_string()),
+            ("row 10".to_string(), format!("row 0{entries}{kept}{kept}")),
+            (format!("set 29 0 {slots} - 4"), "set".to_string()),
             ("active".to_string(), "active 3 0".to_string()),
             ("row 0".to_string(), "row 3".to_string()),
             ("row 8".to_string(), format!("row 3{}", kept.repeat(8))),
@@ -534,6 +536,39 @@ mod tests {
         }
         let longest = replay.answer(b"row 1000").expect("an answer");
         assert_eq!(longest.split(' ').count(), 2 + 1000);
+    }
+
+    /// E8: a request is finished twice before its data has come; then its data comes,
+    /// and its id is used again.
+    #[test]
+    fn drains() {
+        let mut replay = Replay::default();
+        let rest = " 0:f:0:0".repeat(7);
+        let command = "a2446e616d65437365744461726773a0";
+        let waits = format!("0 0 1:w:1:0{rest} 1 1");
+        let drains = waits.replace('w', "d");
+        for (line, answer) in [
+            (format!("set {waits}"), "set".to_string()),
+            ("finish 1".to_string(), "finished 0".to_string()),
+            ("state".to_string(), format!("state {drains}")),
+            ("finish 1".to_string(), "finished 4".to_string()),
+            (
+                "feed 70000 02000001000100216869".to_string(),
+                "fed 0 10 0 -".to_string(),
+            ),
+            ("state".to_string(), format!("state {drains}")),
+            (
+                "feed 70000 0000000100010222".to_string(),
+                "fed 0 8 0 -".to_string(),
+            ),
+            ("state".to_string(), format!("state 0 0 0:f:0:0{rest} - 0")),
+            (
+                format!("feed 70000 1000000100010111{command}"),
+                format!("fed 0 24 25 130000000100010000{command}"),
+            ),
+        ] {
+            assert_eq!(replay.answer(line.as_bytes()), Some(answer), "{line}");
+        }
     }
 
     /// A log of two records: exact, one byte short, longer, cut; and no log.
@@ -577,10 +612,12 @@ mod tests {
     fn states() {
         let mut replay = Replay::default();
         let slots = "9:c:1:7 0:f:0:0 3:w:1:0 5:r:1:0 0:f:0:0 7:r:0:0 0:f:0:0 65535:c:0:2048";
-        let odd = "0:f:1:9 2:c:1:65535 2:w:0:0 5:r:1:1 5:r:1:0 8:f:0:0 1:f:0:0 65535:c:0:1";
+        let drains = slots.replace("0:f:0:0 7:r:0:0", "11:d:1:0 7:d:1:0");
+        let odd = "0:f:1:9 2:c:1:65535 2:w:0:0 5:r:1:1 5:r:1:0 8:f:0:0 1:d:0:3 65535:c:0:1";
         for state in [
             format!("0 0 {slots} - 5"),
             format!("0 0 {slots} - 4"),
+            format!("0 0 {drains} 3 6"),
             format!("29 {PENDING} {slots} 1,3,255 5"),
             format!("255 16777215 {odd} 129 255"),
         ] {
@@ -615,7 +652,8 @@ mod tests {
             format!("set 0 0 {slots} - 5 5"),
             with("9:c", "65537:c"),
             with("c:1:7", "c:1:65536"),
-            with("c:1:7", "d:1:7"),
+            with("c:1:7", "e:1:7"),
+            with("c:1:7", "dd:1:7"),
             with("c:1:7", "c:2:7"),
         ];
         for line in bad {

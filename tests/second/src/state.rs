@@ -17,6 +17,8 @@ pub enum Phase {
     Collecting,
     Waiting,
     Running,
+    /// Finished before its data had all come (E8).
+    Draining,
 }
 
 #[derive(Clone, Copy, Debug, PartialEq, Eq)]
@@ -44,7 +46,8 @@ pub struct State {
     /// The open streams; their ids are odd.
     pub open: BTreeSet<u8>,
     /// How many requests are active. It is right if so many slots are used: an
-    /// accepted new frame takes one, an accepted finish frees one.
+    /// accepted new frame takes one, a finish of a running id and the end of a drain
+    /// free one.
     pub count: u8,
 }
 
@@ -77,7 +80,9 @@ pub enum Way {
     FreeWithLength,
     WaitingWithLength,
     RunningWithLength,
+    DrainingWithLength,
     WaitingWithoutData,
+    DrainingWithoutData,
     DeadBelow11,
     DeadAbove29,
     CountWrong,
@@ -86,7 +91,7 @@ pub enum Way {
 }
 
 impl Way {
-    pub const ALL: [Way; 15] = [
+    pub const ALL: [Way; 17] = [
         Way::PendingAbove,
         Way::LengthAbove,
         Way::UsedEven,
@@ -96,7 +101,9 @@ impl Way {
         Way::FreeWithLength,
         Way::WaitingWithLength,
         Way::RunningWithLength,
+        Way::DrainingWithLength,
         Way::WaitingWithoutData,
+        Way::DrainingWithoutData,
         Way::DeadBelow11,
         Way::DeadAbove29,
         Way::CountWrong,
@@ -115,7 +122,9 @@ impl Way {
             Way::FreeWithLength => "free slot with a length",
             Way::WaitingWithLength => "waiting slot with a length",
             Way::RunningWithLength => "running slot with a length",
+            Way::DrainingWithLength => "draining slot with a length",
             Way::WaitingWithoutData => "waiting slot without its data bit",
+            Way::DrainingWithoutData => "draining slot without its data bit",
             Way::DeadBelow11 => "dead number 1 to 10",
             Way::DeadAbove29 => "dead number above 29",
             Way::CountWrong => "count wrong",
@@ -147,6 +156,7 @@ fn slot_ways(slot: &Slot) -> Vec<Way> {
     let free = slot.phase == Phase::Free;
     let waiting = slot.phase == Phase::Waiting;
     let running = slot.phase == Phase::Running;
+    let draining = slot.phase == Phase::Draining;
     let long = slot.length != 0;
     broken(&[
         (slot.length > COMMAND_BYTES as u64, Way::LengthAbove),
@@ -157,6 +167,8 @@ fn slot_ways(slot: &Slot) -> Vec<Way> {
         (waiting && long, Way::WaitingWithLength),
         (waiting && !slot.data, Way::WaitingWithoutData),
         (running && long, Way::RunningWithLength),
+        (draining && long, Way::DrainingWithLength),
+        (draining && !slot.data, Way::DrainingWithoutData),
     ])
 }
 
@@ -213,8 +225,8 @@ mod tests {
 
     #[test]
     fn slots() {
-        use Phase::{Collecting, Free, Running, Waiting};
-        let table: [(State, &[Way]); 18] = [
+        use Phase::{Collecting, Draining, Free, Running, Waiting};
+        let table: [(State, &[Way]); 24] = [
             (with(0, Free, false, 0), &[]),
             (with(1, Free, false, 0), &[Way::FreeWithId]),
             (with(9, Free, false, 0), &[Way::FreeWithId]),
@@ -233,6 +245,15 @@ mod tests {
             (with(1, Running, false, 0), &[]),
             (with(1, Running, true, 1), &[Way::RunningWithLength]),
             (with(9, Waiting, true, 0), &[Way::UsedDouble]),
+            (with(1, Draining, true, 0), &[]),
+            (with(1, Draining, false, 0), &[Way::DrainingWithoutData]),
+            (with(1, Draining, true, 1), &[Way::DrainingWithLength]),
+            (
+                with(1, Draining, false, LONGEST),
+                &[Way::DrainingWithLength, Way::DrainingWithoutData],
+            ),
+            (with(2, Draining, true, 0), &[Way::UsedEven]),
+            (with(9, Draining, true, 0), &[Way::UsedDouble]),
         ];
         for (state, ways) in table {
             assert_eq!(plain_ways(&state), ways, "{state:?}");

@@ -18,7 +18,11 @@ unfolding phaseOf
 returns-3 c = rw (c .match .keys3)
 
 returns-4 : tie.Need-returns-4
-returns-4 c = phase-other _ (c .match .rest .0 .0 .1) (c .match .rest .0 .1) (c .match .rest .1)
+unfolding phaseOf
+returns-4 c = rw (c .match .keys4)
+
+returns-5 : tie.Need-returns-5
+returns-5 c = phase-other _ (c .match .rest .0 .0 .0 .1) (c .match .rest .0 .0 .1) (c .match .rest .0 .1) (c .match .rest .1)
 
 pub phase-of-spec : {M : Type 1} → statement M
-phase-of-spec = tie.close (tie.spec returns returns-2 returns-3 returns-4)
+phase-of-spec = tie.close (tie.spec returns returns-2 returns-3 returns-4 returns-5)

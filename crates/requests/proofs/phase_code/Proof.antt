@@ -21,7 +21,11 @@ returns-4 : tie.Need-returns-4
 unfolding code
 returns-4 c = rw (c .enum-told4 .given .1)
 
+returns-5 : tie.Need-returns-5
+unfolding code
+returns-5 c = rw (c .enum-told5 .given .1)
+
 pub phase-code-spec : {M : Type 1} → statement M
 phase-code-spec =
     tie.close
-    (tie.spec (λ c. search needs) (λ c. search needs) (λ c. search needs) (λ c. search needs) returns returns-2 returns-3 returns-4)
+    (tie.spec (λ c. search needs) (λ c. search needs) (λ c. search needs) (λ c. search needs) (λ c. search needs) returns returns-2 returns-3 returns-4 returns-5)

@@ -5,7 +5,6 @@ use mathlib.Core.List.{[]}
 use native.Mathlib.Omega.{arith}
 use borrow.Author.Needs.{needs}
 use Rattle.frame.specs.Frame.{framed, isEven, isType}
-use Rattle.requests.specs.Phases.{isPhase, code}
 use Rattle.rules.specs.Rules.{rules, isCommand}
 use Rattle.rules.specs.Stages.{viewed, headRules}
 use Rattle.rules.proofs.RuleLaws.{in-turn}
@@ -13,7 +12,7 @@ use Rattle.rules.proofs.head_number.Statement.{statement}
 use Rattle.rules.proofs.head_number.Tie as tie
 
 returns : tie.Need-returns
-unfolding rules isEven isType isCommand isPhase code
+unfolding rules isEven isType isCommand
 returns c =
     let r22 = c .before .before in
     let follows = r22 .before .before in
@@ -30,8 +29,9 @@ returns c =
     let r12 = r13 .before .before in
     let new = r12 .before .before .before in
     let starts = new .before .before in
-    let phase = starts .before .before .before .before in
-    let a = phase .before .args in
+    let collects = starts .before .before .before .before in
+    let free = collects .before in
+    let a = free .before .args in
     c .try-rule12 .ensures
     ∙ rw (
       r22 .try-rule11 .ensures,
@@ -45,20 +45,24 @@ returns c =
       r14 .try-rule3 .ensures,
       r13 .try-rule2 .ensures,
       r12 .try-rule .ensures,
+    )
+    (rw (
       c .before .is-long .ensures,
       follows .data-follows .ensures,
       fit .flags-fit .ensures,
       r12 .before .before .is-new2 .ensures,
       new .is-new .ensures,
       starts .begins .ensures,
-      phase .phase-code .ensures,
+      collects .is-phase2 .ensures,
+      free .is-phase .ensures,
     )
-    (in-turn (framed (a .h) []) (viewed (a .m) (a .h) []) headRules 12 23 (omega arith) refl)
+    (in-turn (framed (a .h) []) (viewed (a .m) (a .h) []) headRules 12 23 (omega arith) refl))
 
 pub head-number-spec : {M : Type 1} → statement M
 head-number-spec =
     tie.close
     (tie.spec
+    (λ c κs. search needs)
     (λ c κs. search needs)
     (λ c κs. search needs)
     (λ c κs. search needs)

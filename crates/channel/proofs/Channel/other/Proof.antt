@@ -2,17 +2,19 @@
 -- Assumes nothing.
 use Prim.Native.Nat.{ℕ, _+_, _-_, _≤_}
 use mathlib.Core.Path.{_≡_, sym, ap, _∙_}
-use mathlib.Core.Bool.{Bool}
+use mathlib.Core.Bool.{Bool, true, false, not}
 use mathlib.Core.List.{List, []}
 use native.Mathlib.Omega.{arith}
 use lib.ListN.{length, take, drop, getD}
 use borrow.Author.Needs.{needs}
+use borrow.Author.Tests.{not-true, not-false}
 use Rattle.buffer.specs.Bytes.{write}
 use Rattle.frame.specs.declared.Header.{Header}
 use Rattle.frame.specs.Limits.{maxPayload, slotCount}
 use Rattle.frame.specs.Header.{headerOf}
 use Rattle.frame.specs.Frame.{framed, isLast}
 use Rattle.frame.specs.Records.{bit, requestRecord}
+use Rattle.requests.specs.declared.Phase.the-variants.{Waiting}
 use Rattle.requests.specs.declared.Slot.{Slot}
 use Rattle.requests.specs.Phases.{freeSlot}
 use Rattle.rules.specs.declared.Met.{Met}
@@ -21,12 +23,12 @@ use Rattle.rules.specs.Stages.{viewed, lastRules}
 use Rattle.session.specs.Session.{Feed}
 use Rattle.channel.specs.declared.Channel.{Channel}
 use Rattle.channel.specs.declared.Fed.{Fed}
-use Rattle.requests.specs.Slots.{dataSlot}
+use Rattle.requests.specs.Slots.{inPhase, dataSlot}
 use Rattle.channel.specs.Receiver.{Receiver, slotAt}
 use Rattle.channel.specs.Channel.{fedWith}
-use Rattle.channel.specs.Steps.{CountRight, judgedInto, Passed, refusedWith, acceptedWith}
+use Rattle.channel.specs.Steps.{CountRight, judgedInto, metOf, Passed, refusedWith, acceptedWith}
 use Rattle.channel.proofs.Handed.{eight}
-use Rattle.channel.proofs.JudgeLaws.{met-same, passes-same, answers-last, answers-data, answers-settings}
+use Rattle.channel.proofs.JudgeLaws.{met-same, passes-same, answers-last, answers-data, answers-drain, answers-settings}
 use Rattle.channel.proofs.Channel.other.Statement.{statement}
 use Rattle.channel.proofs.Channel.other.Tie as tie
 
@@ -56,13 +58,25 @@ module _ {s : Channel} {h : Header} {m : Met} {w : List ℕ} (kind : h .kind ≡
       rw r-is
       (sym (answers-last (p .frame) count out done (passes-same p) kind-same n (sym (rw (cut, met-same p, p .header) at q)) o))
 
-  takes-data : (n k : ℕ) (x y : Slot) (last : Bool) (third : ℕ) (after : List ℕ) (r : Fed) → n ≡ number → n ≡ 0 → h .kind ≡ 2
-      → x ≡ getD (s .slots) (m .place) freeSlot → y ≡ dataSlot x (framed h []) → last ≡ isLast (framed h []) → third ≡ bit last
+  -- by whether its request waits for it
+  waits-is : (t : Bool) (x : Slot) → t ≡ inPhase Waiting x → x ≡ getD (s .slots) (m .place) freeSlot → inPhase Waiting (slotAt s (metOf s (headerOf w) .place)) ≡ t
+  unfolding slotAt
+  waits-is t x t-is x-is = ap (λ (k : Met). inPhase Waiting (slotAt s (k .place))) (sym (met-same p)) ∙ ap (inPhase Waiting) (sym x-is) ∙ sym t-is
+
+  takes-data : (n k : ℕ) (x y : Slot) (waits last : Bool) (third : ℕ) (after : List ℕ) (r : Fed) → n ≡ number → n ≡ 0 → h .kind ≡ 2
+      → x ≡ getD (s .slots) (m .place) freeSlot → y ≡ dataSlot x (framed h []) → waits ≡ inPhase Waiting x → waits ≡ true → last ≡ isLast (framed h []) → third ≡ bit last
       → (k ≡ length (new third)) × (after ≡ write out done (new third)) → r ≡ acceptedWith s h (m .place) y k → fedWith r w after ≡ goal
   unfolding slotAt
-  takes-data n k x y last third after r q z t x-is y-is last-is third-is (k-is, after-is) r-is =
+  takes-data n k x y waits last third after r q z t x-is y-is waits-are so last-is third-is (k-is, after-is) r-is =
       rw (r-is, y-is, x-is, k-is, after-is, third-is, last-is, cut, met-same p, p .header)
-      (sym (answers-data (p .frame) count out done (passes-same p) kind-same (sym (rw (cut, met-same p, p .header) at q) ∙ z) (rw (p .header) at t)))
+      (sym (answers-data (p .frame) count out done (passes-same p) kind-same (sym (rw (cut, met-same p, p .header) at q) ∙ z) (rw (p .header) at t) (waits-is waits x waits-are x-is ∙ so)))
+
+  takes-drain : (n : ℕ) (x y : Slot) (waits : Bool) (r : Fed) → n ≡ number → n ≡ 0 → h .kind ≡ 2
+      → x ≡ getD (s .slots) (m .place) freeSlot → y ≡ dataSlot x (framed h []) → waits ≡ inPhase Waiting x → waits ≡ false → r ≡ acceptedWith s h (m .place) y 0 → fedWith r w out ≡ goal
+  unfolding slotAt
+  takes-drain n x y waits r q z t x-is y-is waits-are so r-is =
+      rw (r-is, y-is, x-is, met-same p, p .header)
+      (sym (answers-drain (p .frame) count out done (passes-same p) kind-same (sym (rw (cut, met-same p, p .header) at q) ∙ z) (rw (p .header) at t) (waits-is waits x waits-are x-is ∙ so)))
 
   takes-settings : (n : ℕ) (x : Slot) (r : Fed) → n ≡ number → n ≡ 0 → (h .kind ≡ 2 → ⊥) → x ≡ freeSlot → r ≡ acceptedWith s h 8 x 0 → fedWith r w out ≡ goal
   takes-settings n x r q z t x-is r-is =
@@ -82,12 +96,19 @@ module _ (b : tie.Start) where
 
 accepted-requires : tie.Need-accepted-requires
 accepted-requires c κs =
-    let t = c .before .before .before .before .before in
-    let l = t .before .before .before .before .before .before .before .before in
+    let i = c .before .before .before .before .before in
+    let l = i .before .before .before in
     right-count (l .before .before .before .before .before)
 
 accepted-requires-2 : tie.Need-accepted-requires-2
 accepted-requires-2 c κs =
+    let d = c .before .before .before .before .before .before .before in
+    let i = d .before .before .before .before .before in
+    let l = i .before .before .before in
+    right-count (l .before .before .before .before .before)
+
+accepted-requires-3 : tie.Need-accepted-requires-3
+accepted-requires-3 c κs =
     let l = c .before .before .before .before in
     right-count (l .before .before .before .before .before)
 
@@ -99,21 +120,33 @@ returns c =
 
 returns-2 : tie.Need-returns-2
 returns-2 c =
-    let r = c .before .before .before in
-    let t = r .before .before .before in
-    let x = t .before .before .before in
+    let k = c .before .before in
+    let x = k .before .before in
     let i = x .before .before in
     let l = i .before .before .before in
     let b = l .before .before .before .before .before in
-    takes-data (b .pre .0) (b .pre .1) (has-eight b) _ _ _ _ _ _ _ _ _ _ (l .last-number .ensures) (i .before .before .if1 .left) (i .if2 .taken) (x .slot-at .ensures)
-    (t .before .before .data-slot .ensures) (t .before .is-last .ensures) (t .bit .ensures) (r .put-record .ensures) (c .accepted .ensures)
+    takes-drain (b .pre .0) (b .pre .1) (has-eight b) _ _ _ _ _ _ _ (l .last-number .ensures) (i .before .before .if1 .left) (i .if2 .taken) (x .slot-at .ensures)
+    (k .before .data-slot .ensures) (k .is-phase .ensures) (not-true _ (c .before .if3 .taken)) (c .accepted .ensures)
 
 returns-3 : tie.Need-returns-3
 returns-3 c =
+    let r = c .before .before .before in
+    let t = r .before .before .before in
+    let d = t .before .before in
+    let k = d .before in
+    let x = k .before .before in
+    let i = x .before .before in
+    let l = i .before .before .before in
+    let b = l .before .before .before .before .before in
+    takes-data (b .pre .0) (b .pre .1) (has-eight b) _ _ _ _ _ _ _ _ _ _ _ (l .last-number .ensures) (i .before .before .if1 .left) (i .if2 .taken) (x .slot-at .ensures)
+    (k .before .data-slot .ensures) (k .is-phase .ensures) (not-false _ (d .if3 .left)) (t .before .is-last .ensures) (t .bit .ensures) (r .put-record .ensures) (c .accepted2 .ensures)
+
+returns-4 : tie.Need-returns-4
+returns-4 c =
     let i = c .before .before in
     let l = i .before .before .before in
     let b = l .before .before .before .before .before in
-    takes-settings (b .pre .0) (b .pre .1) (has-eight b) _ _ _ _ _ (l .last-number .ensures) (i .before .before .if1 .left) (i .if2 .left) (c .before .free .ensures) (c .accepted2 .ensures)
+    takes-settings (b .pre .0) (b .pre .1) (has-eight b) _ _ _ _ _ (l .last-number .ensures) (i .before .before .if1 .left) (i .if2 .left) (c .before .free .ensures) (c .accepted3 .ensures)
 
 pub other-spec : {M : Type 1} → statement M
 other-spec =
@@ -129,14 +162,17 @@ other-spec =
     (λ c κs. search needs)
     (λ c κs. search needs)
     (λ c κs. search needs)
-    (λ c κs. search needs)
-    (λ c. search needs)
-    (λ c. search needs)
-    (λ c. omega (arith, small (c .before .before .before .before .before .before .before .before .before .before .before .before .before .before)))
-    (λ c κs. search needs)
     accepted-requires
-    (λ c. search needs)
     returns-2
     (λ c κs. search needs)
+    (λ c κs. search needs)
+    (λ c. search needs)
+    (λ c. search needs)
+    (λ c. omega (arith, small (c .before .before .before .before .before .before .before .before .before .before .before .before .before .before .before .before)))
+    (λ c κs. search needs)
     accepted-requires-2
-    returns-3)
+    (λ c. search needs)
+    returns-3
+    (λ c κs. search needs)
+    accepted-requires-3
+    returns-4)
