@@ -19,6 +19,7 @@ enum Phase {
     Collecting,
     Waiting,
     Running,
+    Draining,
 }
 
 #[derive(Clone, Copy)]
@@ -250,10 +251,16 @@ impl<'a> Receiver<'a> {
         refuse_if(!matches!(header.flags, 0x01 | 0x02), 18)?;
         let place = self.slot_of(header.request).ok_or(27)?;
         let slot = &mut self.slots[place];
-        refuse_if(slot.phase != Phase::Waiting, 27)?;
+        let drains = slot.phase == Phase::Draining;
+        refuse_if(!drains && slot.phase != Phase::Waiting, 27)?;
         let last = header.flags == 0x02;
-        if last {
-            slot.phase = Phase::Running;
+        match (last, drains) {
+            (false, _) => {}
+            (true, false) => slot.phase = Phase::Running,
+            (true, true) => *slot = FREE,
+        }
+        if drains {
+            return Ok(0);
         }
         let payload = &self.work[HEADER..][..header.length];
         Ok(put_record(out, 2, header.request, last.into(), payload))
@@ -278,12 +285,11 @@ impl<'a> Receiver<'a> {
         }
         let held = self.slots.iter_mut().find(|slot| slot.id == id);
         match held {
-            Some(slot) if slot.phase == Phase::Running => {
-                *slot = FREE;
-                0
-            }
-            _ => 4,
+            Some(slot) if slot.phase == Phase::Running => *slot = FREE,
+            Some(slot) if slot.phase == Phase::Waiting => slot.phase = Phase::Draining,
+            _ => return 4,
         }
+        0
     }
 }
 
