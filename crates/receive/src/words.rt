@@ -22,7 +22,7 @@ pub(crate) fn say_refused(number: u8) {
           whole command isn't one CBOR item of the subset\n\
           whole command isn't a command map\n\
           a key twice in the outer map or in `args`\n\
-          data: id not waiting\n\
+          data: id neither waiting nor draining\n\
           settings without beginning\n\
           settings not identity\n\
           not a rule of frames\n",
