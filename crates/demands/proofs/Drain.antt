@@ -1,7 +1,7 @@
 -- Answering early: a finish lets a request that waits drain, its data then gives no record, and the last of it frees the slot. What the request
 -- sees is `SeenLaws`, how the count changes `ActiveLaws`. Assumes nothing.
 use Prim.Native.Nat.{ℕ, _+_, _≤_}
-use mathlib.Core.Path.{_≡_, refl, sym, ap, _∙_}
+use mathlib.Core.Path.{_≡_, refl, ap, _∙_}
 use mathlib.Core.Bool.{Bool, true, false, cond}
 use mathlib.Core.List.{List, []}
 use native.Mathlib.Omega.{arith}
@@ -21,7 +21,7 @@ use Rattle.channel.specs.Receiver.{Receiver, slotAt, placeOf, slotOf, withFinis
 use Rattle.channel.specs.Channel.{channel}
 use Rattle.channel.proofs.PhaseLaws.{other-phase}
 use Rattle.channel.proofs.ReceiverLaws.{Ok, keeps, live-case}
-use Rattle.demands.specs.Request.{Request, isIn, idle, enters, moved, ending, itemOf}
+use Rattle.demands.specs.Request.{Request, isIn, idle, enters, moved, ending}
 use Rattle.demands.specs.Demands.{Drains, EarlyFinish, Drained, DrainedFrame}
 use Rattle.demands.proofs.Demand3.{ok}
 use Rattle.demands.proofs.SeenLaws.{seen, never, Finished, taken, stays, finish-cases, finish-own, not-command, moved-data, own-frame}

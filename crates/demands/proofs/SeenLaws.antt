@@ -25,7 +25,7 @@ use Rattle.channel.specs.Channel.{deadFits, plainShape, heldShape, shape}
 use Rattle.demands.specs.Request.{ending, itemOf, Request, idle, isIn, enters, moved}
 use Rattle.rules.specs.Rules.{firstBroken, isCommand, rules}
 use Rattle.rules.proofs.Bools.{and-r, and-i, and-no, no-not, no-is, fails, clash, by-cond}
-use Rattle.channel.proofs.SlotLaws.{inside, each-fits, same-id, of-id, not-free-id, freed-slot}
+use Rattle.channel.proofs.SlotLaws.{inside, each-fits, same-id, of-id, freed-slot}
 use Rattle.rules.proofs.RuleLaws.{passed}
 use Rattle.buffer.proofs.WriteLaws.{own-part, other-part}
 use Rattle.demands.proofs.PlaceLaws.{hit, missed, placed-at}

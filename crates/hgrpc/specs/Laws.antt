@@ -1,6 +1,6 @@
 -- What is proved beside the contracts, each claim under its name: of refusals in proofs/Refusals.antt, of whole sessions in
 -- proofs/Sessions.antt, of a command's parts in proofs/PartLaws.antt. These are definitions: they assume nothing.
-use Prim.Native.Nat.{ℕ, suc, _+_, _<_, _≤_}
+use Prim.Native.Nat.{ℕ, suc, _<_, _≤_}
 use mathlib.Core.Path.{_≡_}
 use mathlib.Core.Bool.{true, false}
 use mathlib.Core.List.{List, [], _∷_}
