@@ -1,4 +1,6 @@
 // The board: sixteen coils, each with a switch and a label, and what a command changes on it. What a command asks for is in commands.rt.
+#![tactic(auto)]
+
 mod commands;
 
 ghost use Rattle.std.specs.Prelude.{◌≡◌};

@@ -1,4 +1,6 @@
 // The board in bytes: whether bytes are a board's, the board of bytes, and the bytes of a board. A coil is read or put at its place.
+#![tactic(auto)]
+
 ghost use Rattle.std.specs.Prelude.{◌≡◌, ◌+◌, ◌≤◌, length, drop};
 ghost use Rattle.buffer.specs.Bytes.{write};
 ghost use Rattle.fields.specs.Fields.{get_all, good_all, put_all};

@@ -1,1 +1,2 @@
 // What is claimed of a session and the board together: definitions and proofs, and no code.
+#![tactic(auto)]

@@ -1,6 +1,8 @@
 // The reader of Mercurial's CBOR subset: heads, items, and the three readers of values, arrays and maps, which
 // call each other. Positions count from the start of the slice; a position past its end holds nothing to read.
 // And the writer of shortest heads.
+#![tactic(auto)]
+
 ghost use Rattle.std.specs.Prelude.{◌≡◌, ◌+◌, ◌%◌, ◌≤◌, ◌<◌, length};
 ghost use Rattle.cbor.specs.Cbor.{width, shortest, is_shortest, big_endian, head_at, end_of, bytes_at, tagged, item_at, scalar_of, key, value, repeat, pair, is_item};
 ghost use Rattle.cbor.specs.Heads.{big_bytes, head_bytes};

@@ -1,4 +1,6 @@
 // The receiving side of one channel: its state, by value; the owner's finish; and what a whole frame does. What feed does is in feed.rt.
+#![tactic(auto)]
+
 mod feed;
 
 ghost use Rattle.std.specs.Prelude.{◌≡◌, ◌+◌, ◌≤◌, ◌<◌, length, take, drop};

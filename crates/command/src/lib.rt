@@ -1,4 +1,6 @@
 // Commands: the check of a command's bytes, and the lookups in a command that passes it.
+#![tactic(auto)]
+
 pub mod c;
 
 ghost use Rattle.std.specs.Prelude.{◌≡◌};

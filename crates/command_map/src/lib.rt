@@ -1,5 +1,7 @@
 // The command map: the judgement of the outer map's entries (25), of keys that stand twice (26), and of the bytes that follow (24), in one
 // walk.
+#![tactic(auto)]
+
 ghost use Rattle.std.specs.Prelude.{◌≡◌};
 ghost use Rattle.command_map.specs.CommandMap.{is_name, value_item, map_checked};
 ghost use Rattle.command_map.specs.Walk.{first_bytes, first_map, unallowed, with_name, with_keys, with_args, with_redirect, judge, Walked, command_of};

@@ -1,5 +1,7 @@
 // Whether a key stands twice in a map. The places of a map's keys are put into a row and searched there (rows.rt); a map with more keys
 // than the row has places is searched in blocks (blocks.rt).
+#![tactic(auto)]
+
 mod blocks;
 mod rows;
 

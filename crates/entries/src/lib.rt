@@ -1,4 +1,6 @@
 // The entries of a map: reading one, and finding a key.
+#![tactic(auto)]
+
 ghost use Rattle.std.specs.Prelude.{◌≡◌};
 ghost use Rattle.entries.specs.Entries.{next_of, is_keyed, entry_at, entries, has_key, find};
 

@@ -1,5 +1,7 @@
 // What programs that read files have in common: the file that an argument names is opened, what cannot be read is said in a line, and words
 // are found by number. Each line goes to the file descriptor `to`: one program says there on standard output, another on standard error.
+#![tactic(auto)]
+
 ghost use Rattle.std.specs.Prelude.{◌≡◌, ◌-◌, take, drop};
 ghost use Rattle.files.specs.Words.{is_option, line_of, behind_lines, row_of};
 

@@ -1,4 +1,6 @@
 // A frame's header and its settings payload.
+#![tactic(auto)]
+
 ghost use Rattle.std.specs.Prelude.{◌≡◌, [], length, get_or, ◌+◌, ◌<◌};
 ghost use Rattle.buffer.specs.Bytes.{write};
 ghost use Rattle.frame.specs.Header.{length_of, header_of, header_bytes};

@@ -1,6 +1,8 @@
 // The channel for C and Rust: its state is a lent run of bytes. A byte slice is a pointer and then a length; the number is the result. The
 // board's calls are in boards.rt, those on a command's bytes in commands.rt, those for a screen in screen.rt, the sending one in sending.rt,
 // those on stored logs in stored.rt and compared.rt.
+#![tactic(auto)]
+
 mod boards;
 mod commands;
 mod compared;

@@ -1,5 +1,7 @@
 // Keys of a map: the part of the bytes that one is, and where one stands to another. Two keys are compared by their lengths first and,
 // only if these are equal, by their bytes.
+#![tactic(auto)]
+
 ghost use Rattle.std.specs.Prelude.{◌≡◌, length};
 ghost use Rattle.keys.specs.Keys.{part, equal};
 ghost use Rattle.keys.specs.Order.{by_bytes, compare};

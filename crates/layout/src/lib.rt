@@ -1,5 +1,7 @@
 // A channel's state in bytes: whether bytes are a state's, the state of bytes, and the bytes of a state. A part of the state is read or put
 // at its place.
+#![tactic(auto)]
+
 ghost use Rattle.std.specs.Prelude.{◌≡◌, ◌+◌, ◌*◌, ◌≤◌, length, drop};
 ghost use Rattle.buffer.specs.Bytes.{write};
 ghost use Rattle.fields.specs.Fields.{number, flag, get_all, good_all, put_all};

@@ -1,5 +1,7 @@
 // Two stored logs with four-byte lengths, compared record by record. Lent logs are compared by `Broken::of` and `Place::next`; logs that come in
 // pieces are read through for breaks by `Scanning::scan`, and then compared by `Comparing::step`. No record is held whole.
+#![tactic(auto)]
+
 mod compare;
 mod heads;
 mod lent;

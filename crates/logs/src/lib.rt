@@ -1,4 +1,6 @@
 // Stored logs: the converter from two-byte to four-byte lengths.
+#![tactic(auto)]
+
 ghost use Rattle.std.specs.Prelude.{◌≡◌, ◌+◌, ◌≤◌, length, drop};
 ghost use Rattle.buffer.specs.Bytes.{write};
 ghost use Rattle.buffer.specs.Answers.{answer};

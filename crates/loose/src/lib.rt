@@ -1,4 +1,6 @@
 // Whether bytes are written loosely: one of their heads is not the shortest for its number.
+#![tactic(auto)]
+
 ghost use Rattle.std.specs.Prelude.{◌≡◌, ◌+◌, ◌≤◌, ◌<◌, length, get_or};
 ghost use Rattle.loose.specs.Scan.{behind_of, behind, scanned};
 ghost use Rattle.loose.specs.Skip.{Skips, Halved};

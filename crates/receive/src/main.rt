@@ -1,5 +1,7 @@
 // Reads captures of the line, the bytes that clients sent, and writes a line for each record that the channel makes of them. The arguments
 // name the files; with none it is standard input.
+#![tactic(auto)]
+
 mod diagnostic;
 mod input;
 mod line;

@@ -1,4 +1,6 @@
 // A record of the channel, read back by document 01's layout: the body's length, the kind, the request and a byte, then a command or data.
+#![tactic(auto)]
+
 ghost use Rattle.std.specs.Prelude.{◌≡◌, ◌<◌, drop};
 ghost use Rattle.records.specs.Records.{number_at, head_of, runs};
 

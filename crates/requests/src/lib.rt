@@ -1,4 +1,6 @@
 // Requests: their phases, and the slots that hold them.
+#![tactic(auto)]
+
 ghost use Rattle.std.specs.Prelude.{◌≡◌, ◌&&◌, eqb, [], drop, get_or, set};
 ghost use Rattle.frame.specs.Frame.{framed, is_even};
 ghost use Rattle.requests.specs.Phases.{code, is_phase, takes_data, can_finish, free_slot};

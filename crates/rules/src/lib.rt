@@ -1,4 +1,6 @@
 // The frame rules 12 to 29, in number order, over a frame's header, what the frame meets, and its payload.
+#![tactic(auto)]
+
 ghost use Rattle.std.specs.Prelude.{◌≡◌, ◌&&◌, not, [], ltb, ◌+◌};
 ghost use Rattle.frame.specs.Limits.{max_command};
 ghost use Rattle.frame.specs.Frame.{framed, is_type};

@@ -1,4 +1,6 @@
 // The sending side: a command from its parts, and the frames that carry it.
+#![tactic(auto)]
+
 mod frames;
 mod parts;
 

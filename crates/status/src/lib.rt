@@ -1,5 +1,7 @@
 // For a screen: how many requests are active, and a lent row that is filled with id and phase of the slots, in their order. The row is a
 // slice of entries; for callers that have none, in_bytes.rt fills one of bytes.
+#![tactic(auto)]
+
 pub mod in_bytes;
 
 ghost use Rattle.std.specs.Prelude.{◌≡◌, get_or};

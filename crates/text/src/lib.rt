@@ -1,5 +1,7 @@
 // Text put into a buffer that the caller lends, one piece after another. Each function puts its piece at `at` and answers the position
 // after it. What does not fit is left out, and a position past the end is answered as it is.
+#![tactic(auto)]
+
 ghost use Rattle.std.specs.Prelude.{◌≡◌, length, drop, ◌-◌, ◌≤◌, ◌<◌, min};
 ghost use Rattle.text.specs.Text.{Added, glyph_of, hex_of, decimal_of, negative_of};
 ghost use Rattle.text.specs.Digit.{digit_of};

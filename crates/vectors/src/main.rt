@@ -1,5 +1,7 @@
 // Reads encodings in hex, one to a line, and says of each whether it is one item of Mercurial's CBOR subset, and which.
 // The input is read in pieces, and of a line no more than one item's bytes is kept.
+#![tactic(auto)]
+
 mod answer;
 mod line;
 
