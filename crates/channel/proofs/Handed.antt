@@ -10,4 +10,4 @@ use Rattle.channel.specs.contracts.Channel.{the_row}
 
 -- the path goes past `dead` and `pending` to the array's machine values, of which there are eight
 pub eight : (s : Channel) (vs : List Val) → Is the_row s vs → length s.slots ≡ slot_count
-eight s vs is = sym (length-map s.slots _) ∙ is.1.1.1.1.0.1.0.1
+eight s vs is = is.1.1.1.1.0.1.0.1

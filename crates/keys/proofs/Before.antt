@@ -31,10 +31,14 @@ lower_trans (x ∷ a) (y ∷ b) (z ∷ c) (here h) (here k) = let l : x < z = om
 lower_trans (x ∷ a) (y ∷ b) (z ∷ c) (here h) (there e k) = let l : x < z = omega arith in here l
 lower_trans (x ∷ a) (y ∷ b) (z ∷ c) (there e h) (here k) = let l : x < z = omega arith in here l
 lower_trans (x ∷ a) (y ∷ b) (z ∷ c) (there e h) (there f k) = there (e ∙ f) (lower_trans a b c h k)
+lower_trans [] b c h _ = elim h [ ]
+lower_trans (x ∷ a) [] c h _ = elim h [ ]
+lower_trans (x ∷ a) (y ∷ b) [] _ h = elim h [ ]
 
 lower-not : (a : List ℕ) → Lower a a → ⊥
 lower-not (x ∷ a) (here h) = omega arith
 lower-not (x ∷ a) (there e h) = lower-not a h
+lower-not [] h = elim h [ ]
 
 pub less_trans : (a b c : List ℕ) → Less a b → Less b c → Less a c
 less_trans a b c (shorter h) (shorter k) = shorter (omega arith)

@@ -94,26 +94,26 @@ module _ (m n : Machine) (a : Alike m n) where
   uncut-alike : (r : m.Recv) (q : n.Recv) (es : List Event) → a.Rel r q → SameOutcome m n a (uncut m r es) (uncut n q es)
   unfolding uncut
   uncut-alike r q [] k = record { end = k; records = refl; answers = refl }
-  uncut-alike r q (took b ∷ es) k = same-fed _ _ _ _ (a.adds r q b k) (uncut-alike _ _ es (a.byte r q b k))
-  uncut-alike r q (asked id ∷ es) k = same-answered _ _ _ _ (a.number r q id k) (uncut-alike _ _ es (a.call r q id k))
+  uncut-alike r q (took b ∷ es) k = same-fed _ _ _ _ (a.adds r q b k) (uncut-alike (m.byte r b).next (n.byte q b).next es (a.byte r q b k))
+  uncut-alike r q (asked id ∷ es) k = same-answered _ _ _ _ (a.number r q id k) (uncut-alike (m.call r id).next (n.call q id).next es (a.call r q id k))
 
   session-alike : (r : m.Recv) (q : n.Recv) (cs : List Call) → a.Rel r q → SameOutcome m n a (session m r cs) (session n q cs)
   unfolding session
   session-alike r q [] k = record { end = k; records = refl; answers = refl }
   session-alike r q (feeds input out ∷ cs) k =
       let f = feed-alike r q input out k in
-      same-fed _ _ _ _ (rw (f.written, f.output)) (session-alike _ _ cs f.next)
+      same-fed _ _ _ _ (rw (f.written, f.output)) (session-alike (feed m r input out).next (feed n q input out).next cs f.next)
   session-alike r q (owns id ∷ cs) k =
       let o = own-alike r q id k in
-      same-answered _ _ _ _ o.0 (session-alike _ _ cs o.1)
+      same-answered _ _ _ _ o.0 (session-alike (own m r id).next (own n q id).next cs o.1)
 
   events-alike : (r : m.Recv) (q : n.Recv) (cs : List Call) → a.Rel r q → events m r cs ≡ events n q cs
   unfolding events
   events-alike r q [] k = refl
   events-alike r q (feeds input out ∷ cs) k =
       let f = feed-alike r q input out k in
-      rw (f.taken, events-alike _ _ cs f.next)
-  events-alike r q (owns id ∷ cs) k = ap (λ (l : List Event). asked id ∷ l) (events-alike _ _ cs (own-alike r q id k).1)
+      rw (f.taken, events-alike (feed m r input out).next (feed n q input out).next cs f.next)
+  events-alike r q (owns id ∷ cs) k = ap (λ (l : List Event). asked id ∷ l) (events-alike (own m r id).next (own n q id).next cs (own-alike r q id k).1)
 
 pub simulation : Simulation
 simulation m n a r q k = record {
