@@ -15,5 +15,6 @@ pub fn put(buffer: &mut [u8], at: usize, bytes: &[u8])
     if bytes.len() < n {
         n = bytes.len();
     }
-    bytes::copy(&bytes[..n], &mut buffer[at..]);
+    let stop = at + n;
+    buffer[at..stop].copy_from_slice(&bytes[..n]);
 }

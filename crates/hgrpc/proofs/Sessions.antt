@@ -182,7 +182,7 @@ read_small =
 
 feed-small : (r : Receiver) (input out : List ℕ) → AreBytes input → Small r → Small (feed channel r input out).next
 unfolding unchanged wrote
-feed-small r input out h k = go (feed channel r input out) (laws.feed-cases channel r input out)
+feed-small r input out h k = go (feed channel r input out) (laws.feed_cases channel r input out)
   where
     go : (f : Feed Receiver) → laws.Fed channel r input out f → Small f.next
     go f (laws.still n) = k

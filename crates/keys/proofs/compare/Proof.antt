@@ -6,20 +6,20 @@ use Rattle.keys.specs.Order.{compare}
 use Rattle.keys.proofs.compare.Statement.{statement}
 use Rattle.keys.proofs.compare.Tie as tie
 
-by-bytes-requires : tie.Need-by-bytes-requires
+by-bytes-requires : tie.Need-by_bytes-requires
 by-bytes-requires c κs = omega arith
 
-returns : tie.Need-returns
+returns : tie.Need-returns-then-a-b
 unfolding compare
-returns c = rw (lt-ltb _ _ c.if1.true)
+returns c = rw (lt-ltb _ _ c.if-a-b.true)
 
-returns-2 : tie.Need-returns-2
+returns-2 : tie.Need-returns-then-b-a
 unfolding compare
-returns-2 c = rw (le-ltb _ _ c.before.if1.false, lt-ltb _ _ c.if2.true)
+returns-2 c = rw (le-ltb _ _ c.before.if-a-b.false, lt-ltb _ _ c.if-b-a.true)
 
-returns-3 : tie.Need-returns-3
+returns-3 : tie.Need-returns
 unfolding compare
-returns-3 c = rw (le-ltb _ _ c.before.before.if1.false, le-ltb _ _ c.before.if2.false) c.by_bytes.ensures
+returns-3 c = rw (le-ltb _ _ c.before.before.if-a-b.false, le-ltb _ _ c.before.if-b-a.false) c.by_bytes.ensures
 
-pub compare-spec : {M : Type 1} → statement M
-compare-spec = tie.close (tie.spec returns returns-2 by-bytes-requires returns-3)
+pub compare_spec : {M : Type 1} → statement M
+compare_spec = tie.close (tie.spec returns returns-2 by-bytes-requires returns-3)

@@ -27,17 +27,17 @@ clamped s start stop end (inl e) =
     rw (take_all (end - start) (drop start s) h, take_all (stop - start) (drop start s) k)
 clamped s start stop end (inr e) = rw e
 
-returns : tie.Need-returns
-returns c = nothing _ _ _ _ c.before.if2.true (⊎_elim (λ w. inl w.1) (λ w. inr w.1) c.before.before.if1.branch)
+returns : tie.Need-returns-then-end-start
+returns c = nothing _ _ _ _ c.before.if-end-start.true (⊎_elim (λ w. inl w.1) (λ w. inr w.1) c.before.before.if-s-end.branch)
 
 part-result-end-2 : tie.Need-slice-bounds-result-end-2
-part-result-end-2 c = ⊎_elim (λ w. omega arith) (λ w. omega arith) c.before.before.if1.branch
+part-result-end-2 c = ⊎_elim (λ w. omega arith) (λ w. omega arith) c.before.before.if-s-end.branch
 
-returns-2 : tie.Need-returns-2
-returns-2 c = clamped _ _ _ _ (⊎_elim (λ w. inl (w.0.taken, w.1)) (λ w. inr w.1) c.before.before.before.if1.branch)
+returns-2 : tie.Need-returns
+returns-2 c = clamped _ _ _ _ (⊎_elim (λ w. inl (w.0.taken, w.1)) (λ w. inr w.1) c.before.before.before.if-s-end.branch)
 
-pub part-spec : {M : Type 1} → statement M
-part-spec =
+pub part_spec : {M : Type 1} → statement M
+part_spec =
     tie.close
     (tie.spec
     (λ c. search rules)

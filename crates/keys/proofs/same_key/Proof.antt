@@ -30,5 +30,5 @@ module _ (a b : List ℕ) (o : Order) (e : o ≡ compare a b) where
   unfolding same
   equals h = sym (ap is_same h) ∙ ap is_same e ∙ same-is-equal a b
 
-pub same-key-spec : {M : Type 1} → statement M
-same-key-spec = tie.close (tie.spec (λ c κs. search rules) (λ c. search rules) (λ c. unequal _ _ _ c.before.compare.ensures c.match.keys2) (λ c. equals _ _ _ c.before.before.compare.ensures c.enum_told.given.1))
+pub same_key_spec : {M : Type 1} → statement M
+same_key_spec = tie.close (tie.spec (λ c κs. search rules) (λ c. search rules) (λ c. unequal _ _ _ c.before.compare.ensures c.in-Same.keys2) (λ c. equals _ _ _ c.before.before.compare.ensures c.enum_told-1.given.1))
