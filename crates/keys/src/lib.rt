@@ -7,7 +7,7 @@ ghost use Rattle.keys.specs.Keys.{part, equal};
 ghost use Rattle.keys.specs.Order.{by_bytes, compare};
 
 // Where a key stands to another: before it, after it, or they are equal by content.
-#[derive(Drop)]
+#[derive(Clone, Copy)]
 pub enum Order {
     Before,
     Same,
