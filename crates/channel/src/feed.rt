@@ -11,7 +11,7 @@ use crate::{Channel, Fed};
 // What a piece of the input comes to: how it ends, how many of its bytes are taken, and how many bytes are pending after it. It ends with
 // 0 where the next piece goes on; with 5 before a byte that needs more output; with 11 where the frame is refused for its length; with 1
 // where a whole frame is in the work area, and is to be judged.
-#[derive(Drop)]
+#[derive(Clone, Copy)]
 struct Piece {
     number: u8,
     taken: usize,

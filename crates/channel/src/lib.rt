@@ -17,7 +17,7 @@ use rules::Met;
 
 // The dead number, 0 while live; how many bytes of the frame under way are in the work area; the slots; the streams, true for open:
 // stream 2k + 1 at index k; and how many requests are active.
-#[derive(Drop)]
+#[derive(Clone, Copy)]
 pub struct Channel {
     pub dead: u8,
     pub pending: usize,
@@ -27,7 +27,7 @@ pub struct Channel {
 }
 
 // What feed answers: its number, how many bytes of the input it took, how many bytes of the output it wrote, and the state after it.
-#[derive(Drop)]
+#[derive(Clone, Copy)]
 pub struct Fed {
     pub number: u8,
     pub taken: usize,
@@ -36,7 +36,7 @@ pub struct Fed {
 }
 
 // What finish answers: its number, and the state after it.
-#[derive(Drop)]
+#[derive(Clone, Copy)]
 pub struct Finished {
     pub number: u8,
     pub channel: Channel,

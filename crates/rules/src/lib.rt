@@ -13,7 +13,7 @@ use requests::{Phase, Slot, Want};
 
 // What a frame meets: whether its stream is open; the index of its request's slot, 8 where it has none; the request's phase and data bit;
 // whether no slot is free; and, of a command frame, the index of its slot and how many bytes of the command the slot's part holds.
-#[derive(Drop)]
+#[derive(Clone, Copy)]
 pub struct Met {
     is_open: bool,
     pub place: usize,

@@ -15,7 +15,7 @@ pub const MAX_SIZE: usize = 4096;
 
 // How a command is sent: its request id, its stream id with the wishes for its beginning and its end, and the payload size of a full
 // frame.
-#[derive(Drop)]
+#[derive(Clone, Copy)]
 pub struct Wishes {
     pub request: u16,
     pub stream: u8,
@@ -25,7 +25,7 @@ pub struct Wishes {
 }
 
 // The sending call's answer: 0 or the refusal, and the bytes written.
-#[derive(Drop)]
+#[derive(Clone, Copy)]
 pub struct Sent {
     pub number: u32,
     pub written: usize,

@@ -12,14 +12,14 @@ use channel::Channel;
 use requests::Phase;
 
 // What the screen shows of a slot: the request's id and its phase.
-#[derive(Drop)]
+#[derive(Clone, Copy)]
 pub struct Entry {
     pub id: u16,
     pub phase: Phase,
 }
 
 // What active answers: its number, and how many requests are active.
-#[derive(Drop)]
+#[derive(Clone, Copy)]
 pub struct ActiveCount {
     pub number: u8,
     pub count: u8,
