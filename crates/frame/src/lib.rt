@@ -23,7 +23,7 @@ pub const FRAME_AREA: usize = 8 + MAX_PAYLOAD;
 pub const WORK_AREA: usize = FRAME_AREA + 8 * MAX_COMMAND;
 
 // The numbers of a frame's eight header bytes. The type is called kind here, for `type` is a word of the language.
-#[derive(Drop)]
+#[derive(Clone, Copy)]
 pub struct Header {
     pub length: usize,
     pub request: u16,
