@@ -9,7 +9,7 @@ ghost use Rattle.cbor.specs.Heads.{big_bytes, head_bytes};
 ghost use Rattle.buffer.specs.Bytes.{write};
 
 // What reading a head finds: its major type, the low five bits of its first byte, its value and the position after it.
-#[derive(Drop)]
+#[derive(Clone, Copy)]
 pub enum Head {
     Of {
         major: u8,
@@ -22,7 +22,7 @@ pub enum Head {
 
 // What stands at a position: an integer's head value, a byte string's start, or a container's count, which reaches 2^64-1 and is never
 // added to a position. The last number is the position after a scalar, or that of a container's first element.
-#[derive(Drop)]
+#[derive(Clone, Copy)]
 pub enum Item {
     Unsigned(u64, usize),
     Negative(u64, usize),
@@ -35,7 +35,7 @@ pub enum Item {
 }
 
 // The position after what was read.
-#[derive(Drop)]
+#[derive(Clone, Copy)]
 pub enum Next {
     At(usize),
     Bad,

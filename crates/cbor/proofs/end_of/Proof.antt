@@ -19,14 +19,14 @@ within : (s : List ℕ) (from n : ℕ) → from + n ≤ length s → from + n �
 unfolding end_of
 within s from n h = rw (le-ltb _ _ h)
 
-returns : tie.Need-returns
+returns : tie.Need-returns-then-s-from
 returns c = past _ _ _ (omega arith)
 
-returns-2 : tie.Need-returns-2
+returns-2 : tie.Need-returns-then-room-n
 returns-2 c = past _ _ _ (omega arith)
 
-returns-3 : tie.Need-returns-3
+returns-3 : tie.Need-returns
 returns-3 c = within _ _ _ (omega arith)
 
-pub end-of-spec : {M : Type 1} → statement M
-end-of-spec = tie.close (tie.spec (λ c. search rules) returns (λ c. search rules) returns-2 (λ c. search rules) returns-3)
+pub end_of_spec : {M : Type 1} → statement M
+end_of_spec = tie.close (tie.spec (λ c. search rules) returns (λ c. search rules) returns-2 (λ c. search rules) returns-3)
