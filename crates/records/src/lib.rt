@@ -6,7 +6,7 @@ ghost use Rattle.records.specs.Records.{number_at, head_of, runs};
 
 // The numbers in front of a record. The bit is the data bit of a command (kind 1) and the last bit of data (kind 2); `loose` is 1 where a
 // command is written loosely, one of its heads not the shortest, and 0 for data.
-#[derive(Drop)]
+#[derive(Clone, Copy)]
 pub struct Head {
     pub kind: u16,
     pub request: u16,

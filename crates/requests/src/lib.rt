@@ -10,7 +10,7 @@ use frame::Header;
 
 // A request is collecting (its command isn't whole), waiting for data, running, or draining (finished before its data has all come).
 // A free slot holds none.
-#[derive(Drop)]
+#[derive(Clone, Copy)]
 pub enum Phase {
     Free,
     Collecting,
@@ -20,7 +20,7 @@ pub enum Phase {
 }
 
 // A slot: the request's id, its phase, its data bit, and how many bytes of its command the slot's part of the work area holds.
-#[derive(Drop)]
+#[derive(Clone, Copy)]
 pub struct Slot {
     pub id: u16,
     pub phase: Phase,
@@ -29,7 +29,7 @@ pub struct Slot {
 }
 
 // What is looked for among the slots: the used one of an id, or a free one.
-#[derive(Drop)]
+#[derive(Clone, Copy)]
 pub enum Want {
     Used(u16),
     Unused,

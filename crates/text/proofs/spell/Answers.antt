@@ -1,15 +1,11 @@
--- `text::spell` meets its contract. The loop's invariant: the number is what is left of it in front of the digits that stand behind `i`,
--- and it has no more digits than there are places up to `i`. The measure is what is left of the number. Assumes nothing.
-use mathlib.Core.Path.{◌≡◌, refl, sym, ◌∙◌}
-use mathlib.Core.List.{List, [], ◌∷◌}
-use Prim.Native.Nat.{ℕ, zero, suc, ◌+◌, ◌-◌, ◌/◌, ◌%◌, ◌^◌, ◌≤◌, ◌<◌}
+-- `text::spell` meets its contract: each step puts the last digit of what is left in front, and one digit is left at the end.
+-- Assumes nothing.
+use Rattle.std.proofs.Common.{◌≡◌, ℕ, zero, suc, ◌+◌, ◌-◌, ◌/◌, ◌%◌, ◌^◌, ◌≤◌, ◌<◌, List, [], ◌∷◌, length, drop, set, refl, sym, ◌∙◌, arith}
 use native.Mathlib.Nat.{pow-suc, not-suc-le-zero}
-use native.Mathlib.Omega.{arith}
 use borrow.Author.Tests.{lt-ltb, le-ltb}
-use lib.ListN.{length, drop, set, length-set, drop_of_length-le}
+use lib.ListN.{length-set, drop_of_length-le}
 use Rattle.text.specs.Text.{decimal_before, decimal_of}
-use Rattle.text.proofs.spell.Statement.{statement}
-use Rattle.text.proofs.spell.Tie as tie
+use Rattle.text.proofs.spell.Goals as goal
 
 drop-set : (l : List ℕ) (i b : ℕ) → i < length l → drop i (set l i b) ≡ b ∷ drop (suc i) l
 drop-set [] i b h = absurd (not-suc-le-zero h)
@@ -40,52 +36,23 @@ unfolding decimal_before
 last l zero n b h k e = let m : n % 10 ≡ n = omega arith in rw (drop-set l zero b h, m, e)
 last l (suc i) n b h k e = rw (drop-set l (suc i) b h, e, lt-ltb n 10 (omega arith))
 
-abbrev invariant-loop : tie.invariant-loop
-invariant-loop n digits₀ rest₀ i₀ digits rest i =
-    (i ≤ 19) × (rest < 10 ^ suc i) × (length digits ≡ 20) × (decimal_of n ≡ decimal_before i rest (drop (suc i) digits))
-
-abbrev decreases-loop : tie.decreases-loop
-decreases-loop n digits₀ rest₀ i₀ digits rest i = rest
-
-loop-holds : tie.Need-loop-init invariant-loop decreases-loop
+pub loop-rest-init : goal.loop-rest-init
 unfolding decimal_of
-loop-holds c =
+loop-rest-init c =
     let h : length c.args.digits.now ≤ 20 = omega arith in
     let e : drop 20 c.args.digits.now ≡ [] = drop_of_length-le c.args.digits.now h in
     (omega arith, omega arith, c.requires, rw e)
 
-sub-i : tie.Need-overflow-sub-i invariant-loop decreases-loop
-sub-i c = place c.before.loop.i c.before.loop.rest c.before.loop.invariant.1 (omega arith)
+pub overflow_sub-i : goal.overflow_sub-i
+overflow_sub-i c = place c.loop-rest.i c.loop-rest.rest c.loop-rest.invariant.1 (omega arith)
 
-loop-again : tie.Need-loop-preserved invariant-loop decreases-loop
-loop-again c =
-    let l = c.before.loop in
+pub loop-rest-preserved : goal.loop-rest-preserved
+loop-rest-preserved c =
+    let l = c.loop-rest in
     let p = place l.i l.rest l.invariant.1 (omega arith) in
     (omega arith, fewer l.i l.rest p l.invariant.1, simp length-set l.invariant.2, l.invariant.3 ∙ step l.digits l.i l.rest _ p (omega arith) (omega arith) refl)
 
-same_length : tie.Need-same-length invariant-loop decreases-loop
-same_length c = simp length-set (omega arith)
-
-returns : tie.Need-returns invariant-loop decreases-loop
+pub returns : goal.returns
 returns c =
-    let l = c.before.loop in
+    let l = c.loop-rest in
     (omega arith, last l.digits l.i l.rest _ (omega arith) (omega arith) refl ∙ sym l.invariant.3)
-
-pub spell-spec : {M : Type 1} → statement M
-spell-spec =
-    tie.close
-    (tie.spec
-    invariant-loop
-    decreases-loop
-    loop-holds
-    (λ c. omega arith)
-    (λ c. omega arith)
-    (λ c. omega arith)
-    sub-i
-    (λ c. omega arith)
-    loop-again
-    (λ c. omega arith)
-    (λ c. omega arith)
-    (λ c. omega arith)
-    same_length
-    returns)

@@ -1,15 +1,10 @@
 -- `text::digit` meets its contract. Each way out comes from tests on the ends of the three ranges, and these say which case
 -- of the definition holds. Assumes nothing.
-use borrow.Author.Rules.{rules}
+use Rattle.std.proofs.Common.{ℕ, ◌≡◌, ◌≤◌, ◌<◌, Bool, true, false, ◌&&◌, refl, arith}
 use borrow.Author.Tests.{le-leb, lt-leb}
-use mathlib.Core.Path.{◌≡◌, refl}
-use mathlib.Core.Bool.{Bool, true, false, ◌&&◌}
-use Prim.Native.Nat.{ℕ, ◌≤◌, ◌<◌}
-use native.Mathlib.Omega.{arith}
 use lib.Dec.{leb}
 use Rattle.text.specs.Digit.{between, digit_of}
-use Rattle.text.proofs.digit.Statement.{statement}
-use Rattle.text.proofs.digit.Tie as tie
+use Rattle.text.proofs.digit.Goals as goal
 
 and-false : (t : Bool) → (t && false) ≡ false
 and-false true = refl
@@ -28,58 +23,42 @@ module _ (low high b : ℕ) where
   unfolding between
   above h = rw (lt-leb b high h) (and-false (leb low b))
 
-returns : tie.Need-returns
+pub returns-in-48-to-57 : goal.returns-in-48-to-57
 unfolding digit_of
-returns c =
-    let b = c.before.before.args.b in
-    rw (inside 48 57 b (omega arith) (omega arith))
+returns-in-48-to-57 c = let b = c.args.b in rw (inside 48 57 b (omega arith) (omega arith))
 
-returns-2 : tie.Need-returns-2
+pub returns-in-65-to-70 : goal.returns-in-65-to-70
 unfolding digit_of
-returns-2 c =
-    let b = c.before.before.before.before.args.b in
+returns-in-65-to-70 c =
+    let b = c.args.b in
     rw (above 48 57 b (omega arith), inside 65 70 b (omega arith) (omega arith)) (omega arith)
 
-returns-3 : tie.Need-returns-3
+pub returns-in-97-to-102 : goal.returns-in-97-to-102
 unfolding digit_of
-returns-3 c =
-    let b = c.before.before.before.before.before.before.args.b in
+returns-in-97-to-102 c =
+    let b = c.args.b in
     rw (above 48 57 b (omega arith), above 65 70 b (omega arith), inside 97 102 b (omega arith) (omega arith)) (omega arith)
 
-returns-4 : tie.Need-returns-4
+pub returns-in_default : goal.returns-in_default
 unfolding digit_of
-returns-4 c =
-    let b = c.before.args.b in
+returns-in_default c =
+    let b = c.args.b in
     rw (below 48 57 b (omega arith), below 65 70 b (omega arith), below 97 102 b (omega arith))
 
-returns-5 : tie.Need-returns-5
+pub returns-in_default-2 : goal.returns-in_default-2
 unfolding digit_of
-returns-5 c =
-    let b = c.before.before.before.args.b in
+returns-in_default-2 c =
+    let b = c.args.b in
     rw (above 48 57 b (omega arith), below 65 70 b (omega arith), below 97 102 b (omega arith))
 
-returns-6 : tie.Need-returns-6
+pub returns-in_default-3 : goal.returns-in_default-3
 unfolding digit_of
-returns-6 c =
-    let b = c.before.before.before.before.before.args.b in
+returns-in_default-3 c =
+    let b = c.args.b in
     rw (above 48 57 b (omega arith), above 65 70 b (omega arith), below 97 102 b (omega arith))
 
-returns-7 : tie.Need-returns-7
+pub returns-in_default-4 : goal.returns-in_default-4
 unfolding digit_of
-returns-7 c =
-    let b = c.before.before.before.before.before.before.args.b in
+returns-in_default-4 c =
+    let b = c.args.b in
     rw (above 48 57 b (omega arith), above 65 70 b (omega arith), above 97 102 b (omega arith))
-
-pub digit-spec : {M : Type 1} → statement M
-digit-spec =
-    tie.close
-    (tie.spec
-    (λ c. search rules)
-    (λ c. search rules)
-    returns
-    returns-2
-    returns-3
-    returns-4
-    returns-5
-    returns-6
-    returns-7)
