@@ -40,10 +40,10 @@ returns c =
     let start = c.before.before.before.before.before.before.before.before.before.before.before.before in
     let a = start.args in
     let f : Found 2 a.log.now a.at a.end = found 2 a.log.now a.at start.requires.1 (omega arith) in
-    second.put2.ensures ∙ rw (first.put.ensures, p.part.ensures) (in_two a.log.now a.at a.end a.out.now a.to f)
+    second.put-2.ensures ∙ rw (first.put.ensures, p.part.ensures) (in_two a.log.now a.at a.end a.out.now a.to f)
 
-pub put-record-spec : {M : Type 1} → statement M
-put-record-spec =
+pub put_record_spec : {M : Type 1} → statement M
+put_record_spec =
     tie.close
     (tie.spec
     (λ c. search rules)

@@ -7,7 +7,7 @@ use Rattle.logs.proofs.whole.Statement.{statement}
 use Rattle.logs.proofs.whole.Tie as tie
 
 returns : tie.Need-returns
-returns c = ap (λ (f : Front). f.length) c.measured.ensures
+returns c = ap (λ (f : Front). f.length) c.measured-front.ensures
 
-pub whole-spec : {M : Type 1} → statement M
-whole-spec = tie.close (tie.spec (λ c κs. search rules) returns)
+pub whole_spec : {M : Type 1} → statement M
+whole_spec = tie.close (tie.spec (λ c κs. search rules) returns)
