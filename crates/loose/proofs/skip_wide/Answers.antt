@@ -1,17 +1,10 @@
 -- `loose::skip_wide` meets its contract, for each width.
 -- Assumes nothing.
-use Prim.Native.Nat.{ℕ, ◌*◌, ◌/◌, ◌%◌, ◌^◌, ◌≤◌, ◌<◌}
-use mathlib.Core.Path.{◌≡◌, refl, sym, ◌∙◌}
-use mathlib.Core.List.{List}
-use native.Mathlib.Omega.{arith}
-use lib.ListN.{get_or}
-use borrow.Author.Rules.{rules}
+use Rattle.std.proofs.Common.{◌≡◌, ℕ, ◌*◌, ◌/◌, ◌%◌, ◌^◌, ◌≤◌, ◌<◌, List, get_or, refl, sym, ◌∙◌, arith}
 use borrow.Author.Tests.{lt-ltb, le-ltb}
 use Rattle.cbor.specs.Cbor.{width, shortest}
 use Rattle.loose.specs.Skip.{Halved}
-use Rattle.loose.proofs.ScanLaws.{stays}
-use Rattle.loose.proofs.skip_wide.Statement.{statement}
-use Rattle.loose.proofs.skip_wide.Tie as tie
+use Rattle.loose.proofs.skip_wide.Goals as goal
 
 -- a head of one of the three widths
 halved : (s : List ℕ) (at info half : ℕ) → (get_or s at 0 / 32 ≡ 2 → ⊥) → get_or s at 0 % 32 ≡ info → 24 ≤ info → info < 28 → width info ≡ 2 * half → half ≤ 4
@@ -42,25 +35,11 @@ module _ (s : List ℕ) (at : ℕ) (o : get_or s at 0 / 32 ≡ 2 → ⊥) where
       halved s at 27 4 o e (omega arith) (omega arith) refl (omega arith)
       (λ n a b. rw (le-ltb n 24 (omega arith), le-ltb n 256 (omega arith), le-ltb n 65536 (omega arith), le-ltb n 4294967296 (omega arith)))
 
-skip-half-requires : tie.Need-skip-half-requires
-skip-half-requires c κs = (c.before.before.before.before.requires, two _ _ c.before.if1.false c.if2.true)
+pub skip_half-requires : goal.skip_half-requires
+skip_half-requires c = (c.requires, two _ _ c.if-b-eq2.false c.if-b-eq25.true)
 
-skip-half-requires-2 : tie.Need-skip-half-requires-2
-skip-half-requires-2 c κs = (c.before.before.before.before.before.requires, four _ _ c.before.before.if1.false c.if3.true)
+pub skip_half-requires-then-b-eq26 : goal.skip_half-requires-then-b-eq26
+skip_half-requires-then-b-eq26 c = (c.requires, four _ _ c.if-b-eq2.false c.if-b-eq26.true)
 
-skip-half-requires-3 : tie.Need-skip-half-requires-3
-skip-half-requires-3 c κs = (c.before.before.before.before.before.before.requires, eight _ _ c.before.before.before.if1.false c.if4.true)
-
-pub skip-wide-spec : {M : Type 1} → statement M
-skip-wide-spec =
-    tie.close
-    (tie.spec
-    (λ c. search rules)
-    (λ c. stays _ _)
-    skip-half-requires
-    (λ c. c.skip-half.ensures)
-    skip-half-requires-2
-    (λ c. c.skip-half2.ensures)
-    skip-half-requires-3
-    (λ c. c.skip-half3.ensures)
-    (λ c. stays _ _))
+pub skip_half-requires-then-b-eq27 : goal.skip_half-requires-then-b-eq27
+skip_half-requires-then-b-eq27 c = (c.requires, eight _ _ c.if-b-eq2.false c.if-b-eq27.true)
