@@ -76,7 +76,7 @@ module _ (s : List ℕ) where
   contents-more (Other next) es = refl
   contents-more Broken es = refl
 
-  -- a k stands among the contents exactly if an entry with it is found
+  -- a key stands among the contents exactly if an entry with it is found
   found_among : (k : List ℕ) (e : Entry) (es : List Entry) → among (contents s es) k ≡ is_keyed (find s k es) → among (contents s (e ∷ es)) k ≡ is_keyed (cond (has_key s k e) e (find s k es))
   unfolding contents among
   found_among k (Keyed start stop next) es h = by (equal k (part s start stop))
@@ -92,7 +92,7 @@ module _ (s : List ℕ) where
   among-find k [] = refl
   among-find k (e ∷ es) = found_among k e es (among-find k es)
 
-  -- a k stands twice in a list if its first k stands again in the rest, or one stands twice there
+  -- a key stands twice in a list if its first key stands again in the rest, or one stands twice there
   pub twice-more : (e : Entry) (es : List Entry) → twice (contents s (e ∷ es)) ≡ (again s e es || twice (contents s es))
   unfolding contents twice
   twice-more (Keyed start stop next) es = refl

@@ -5,23 +5,20 @@ use mathlib.Core.Path.{◌≡◌, refl, ◌∙◌}
 use mathlib.Core.Bool.{Bool, true, false}
 use mathlib.Core.Logic.{◌⊎◌, inl, inr, ⊎_elim}
 use mathlib.Core.List.{List}
-use Prim.Native.Nat.{ℕ, ◌+◌, ◌-◌, ◌≤◌, ◌<◌}
-use native.Mathlib.Omega.{arith}
+use Prim.Native.Nat.{ℕ, ◌+◌, ◌<◌}
+use Rattle.std.proofs.Common.{arith}
 use lib.ListN.{length, get_or, set, length-set}
 use lib.Dec.{ltb}
 use lib.Seq.{get_or-set_same, get_or-set_other}
 use borrow.Author.Tests.{ltb-true, ltb-false}
-use Rattle.double_keys.specs.Search.{Listed, Lists}
+use Rattle.double_keys.specs.Search.{Listed}
 use Rattle.double_keys.proofs.Marks.{Spot, below, here, spot}
-use Rattle.double_keys.proofs.rows.list_shared.Statement.{statement}
-use Rattle.double_keys.proofs.rows.list_shared.Tie as tie
+use Rattle.double_keys.proofs.rows.list_shared.Goals as goal
+use Rattle.double_keys.proofs.rows.list_shared.Goals.{then-counts-mark-gt1, else-counts-mark-gt1}
+use Rattle.double_keys.proofs.rows.list_shared.Invariants.{Listing}
 
 module _ (counts row₀ : List ℕ) where
-  record Listing (row : List ℕ) (i m : ℕ) : Type 0 where
-    lists : Lists i counts row₀ row m
-    rest : (t : ℕ) → i ≤ t → get_or row t 0 ≡ get_or row₀ t 0
-
-  listing_none : Listing row₀ 0 0
+  listing_none : Listing counts row₀ row₀ 0 0
   listing_none = record {
     lists = record {
       few = omega arith;
@@ -32,7 +29,7 @@ module _ (counts row₀ : List ℕ) where
     rest = λ t h. refl;
   }
 
-  module _ (row : List ℕ) (i m : ℕ) (l : Listing row i m) where
+  module _ (row : List ℕ) (i m : ℕ) (l : Listing counts row₀ row i m) where
     -- one more index: below i as before, or i
     by_last : {A : ℕ → Type 0} → ((t : ℕ) → t < i → A t) → A i → (t : ℕ) → t < i + 1 → A t
     by_last {A} f a t h = by (ltb t i) refl
@@ -42,7 +39,7 @@ module _ (counts row₀ : List ℕ) where
         by false e = let k = ltb-false t i e in let q : t ≡ i = omega arith in rw q a
 
     -- an index that is not listed
-    passed : get_or counts (get_or row₀ i 0) 0 < 2 → Listing row (i + 1) m
+    passed : get_or counts (get_or row₀ i 0) 0 < 2 → Listing counts row₀ row (i + 1) m
     passed h =
         let x = l.lists in
         record {
@@ -76,7 +73,7 @@ module _ (counts row₀ : List ℕ) where
       own : Listed row' (m + 1) i
       own = record { index = m; below = omega arith; here = get_or-set_same row m i 0 w }
 
-      added : Listing row' (i + 1) (m + 1)
+      added : Listing counts row₀ row' (i + 1) (m + 1)
       added =
           let x = l.lists in
           record {
@@ -93,52 +90,18 @@ module _ (counts row₀ : List ℕ) where
             rest = λ t h. get_or-set_other row m t i 0 (λ e. omega (arith, x.few)) ∙ l.rest t (omega arith);
           }
 
-abbrev invariant-loop : tie.invariant-loop
-invariant-loop n counts row₀ i₀ m₀ row i m = (i ≤ n) × Listing counts row₀ row i m
+-- the mark at index i still stands in the row
+pub bounds-counts-mark : goal.bounds-counts-mark
+bounds-counts-mark c = rw (c.loop-i.invariant.1.rest c.loop-i.i (omega arith)) (c.requires.2 c.loop-i.i c.loop-i-test.true)
 
-abbrev decreases-loop : tie.decreases-loop
-decreases-loop n counts row₀ i₀ m₀ row i m = n - i
-
--- a turn: the mark at index i, which still stands in the row, and the room for i in front of it
-module _ (c : tie.In-loop invariant-loop decreases-loop) where
-  abbrev turn : tie.At-loop invariant-loop decreases-loop
-  turn = c.before
-
-  in_row : turn.loop.i < length turn.loop.row
-  in_row = omega (arith, turn.loop.inv.1.lists.long, turn.before.pre.0)
-
-  in-counts : get_or turn.loop.row turn.loop.i 0 < length turn.before.args.counts.now
-  in-counts = rw (turn.loop.inv.1.rest turn.loop.i (omega arith)) (turn.before.pre.2 turn.loop.i c.loop-test.true)
-
-  room : turn.loop.m < length turn.loop.row
-  room = omega (arith, in_row, turn.loop.inv.1.lists.few)
-
-loop-again : tie.Need-loop-preserved invariant-loop decreases-loop
-loop-again c =
-    let t = c.before.before.before in
-    let l = t.before.loop in
-    let e = l.invariant.1.rest l.i (omega arith) in (
+pub loop-i-preserved : goal.loop-i-preserved
+loop-i-preserved c =
+    let l = c.loop-i in
+    let e = l.invariant.1.rest l.i (omega arith) in
+    let room : l.m < length l.row = omega (arith, l.invariant.1.lists.few, l.invariant.1.lists.long) in (
       omega arith,
-      ⊎_elim (λ w. rw (w.1, w.2) (added _ _ _ _ _ l.invariant.1 (room t))) (λ w. rw (w.1, w.2) (passed _ _ _ _ _ l.invariant.1 (rw (← e) (omega (arith, w.0.left))))) c.if1.branch,
+      elim c.if-counts-mark-gt1.branch [
+        | then-counts-mark-gt1 w ↦ rw (w.row-is, w.m-is) (added _ _ _ _ _ l.invariant.1 room)
+        | else-counts-mark-gt1 w ↦ rw (w.row-is, w.m-is) (passed _ _ _ _ _ l.invariant.1 (rw (← e) (omega (arith, w.if-counts-mark-gt1.false))))
+      ],
     )
-
-pub list-shared-spec : {M : Type 1} → statement M
-list-shared-spec =
-    tie.close
-    (tie.spec
-    invariant-loop
-    decreases-loop
-    (λ c. (omega arith, listing_none _ _))
-    (λ c. omega (arith, in_row c))
-    (λ c. in_row c.before)
-    (λ c. omega (arith, in-counts c.before, c.slice-known.given c.before.before.loop.i))
-    (λ c. in-counts c.before.before)
-    (λ c. omega (arith, c.before.before.before.before.before.requires.1))
-    (λ c. omega (arith, room c.before.before.before))
-    (λ c. room c.before.before.before)
-    (λ c. omega (arith, room c.before.before.before))
-    (λ c. omega (arith, in_row c.before.before.before))
-    (λ c. omega arith)
-    loop-again
-    (λ c. c.before.loop.invariant.1.lists.long)
-    (λ c. let e : c.before.loop.i ≡ c.before.before.args.n = omega arith in rw e at c.before.loop.invariant.1.lists))

@@ -4,20 +4,14 @@ use mathlib.Core.Path.{◌≡◌, refl, ◌∙◌}
 use mathlib.Core.Bool.{Bool, true, false}
 use mathlib.Core.List.{List}
 use Prim.Native.Nat.{ℕ, suc, ◌-◌, ◌≤◌, ◌<◌}
-use native.Mathlib.Omega.{arith}
+use Rattle.std.proofs.Common.{arith}
 use lib.ListN.{length, get_or, set, length-set}
 use lib.Dec.{ltb}
 use lib.Seq.{get_or-set_same, get_or-set_other}
 use borrow.Author.Tests.{ltb-true, ltb-false}
 use Rattle.double_keys.specs.Search.{Inserted}
-use Rattle.double_keys.proofs.rows.insert.Statement.{statement}
-use Rattle.double_keys.proofs.rows.insert.Tie as tie
-
-record Moved (row₀ row : List ℕ) (k j : ℕ) : Type 0 where
-  long : length row ≡ length row₀
-  front : (t : ℕ) → t < j → get_or row t 0 ≡ get_or row₀ t 0
-  back : (t : ℕ) → j ≤ t → t < k → get_or row (suc t) 0 ≡ get_or row₀ t 0
-  beyond : (t : ℕ) → k < t → get_or row t 0 ≡ get_or row₀ t 0
+use Rattle.double_keys.proofs.rows.insert.Goals as goal
+use Rattle.double_keys.proofs.rows.insert.Invariants.{Moved}
 
 module _ (row₀ row : List ℕ) (k j : ℕ) (m : Moved row₀ row k j) where
   moved_more : 0 < j → j ≤ k → j < length row → Moved row₀ (set row j (get_or row (j - 1) 0)) k (j - 1)
@@ -47,41 +41,14 @@ module _ (row₀ row : List ℕ) (k j : ℕ) (m : Moved row₀ row k j) where
     beyond = λ t l. get_or-set_other row j t v 0 (λ e. omega arith) ∙ m.beyond t l;
   }
 
-abbrev invariant-loop : tie.invariant-loop
-invariant-loop row₀ k at v j₀ row j = (at ≤ j) × (j ≤ k) × Moved row₀ row k j
+pub loop-j-init : goal.loop-j-init
+loop-j-init c = (omega arith, omega arith, record { long = refl; front = λ t h. refl; back = λ t h u. absurd (omega arith); beyond = λ t h. refl })
 
-abbrev decreases-loop : tie.decreases-loop
-decreases-loop row₀ k at v j₀ row j = j
+pub loop-j-preserved : goal.loop-j-preserved
+loop-j-preserved c =
+    (omega arith, omega arith, moved_more _ _ _ _ c.loop-j.invariant.2 (omega arith) (omega arith) (omega arith))
 
-loop-holds : tie.Need-loop-init invariant-loop decreases-loop
-loop-holds c = (omega arith, omega arith, record { long = refl; front = λ t h. refl; back = λ t h u. absurd (omega arith); beyond = λ t h. refl })
-
-loop-again : tie.Need-loop-preserved invariant-loop decreases-loop
-loop-again c =
-    let l = c.before.before in
-    (omega arith, omega arith, moved_more _ _ _ _ l.loop.invariant.2 (omega arith) (omega arith) (omega arith))
-
-returns : tie.Need-returns invariant-loop decreases-loop
+pub returns : goal.returns
 returns c =
-    let l = c.before in
-    let e : l.loop.j ≡ l.before.args.at = omega arith in
-    rw e at (inserted _ _ _ _ l.loop.invariant.2 l.before.args.v (omega arith) (omega arith))
-
-pub insert-spec : {M : Type 1} → statement M
-insert-spec =
-    tie.close
-    (tie.spec
-    invariant-loop
-    decreases-loop
-    loop-holds
-    (λ c. omega arith)
-    (λ c. omega arith)
-    (λ c. omega arith)
-    (λ c. omega arith)
-    (λ c. omega arith)
-    (λ c. omega arith)
-    loop-again
-    (λ c. omega arith)
-    (λ c. omega arith)
-    (λ c. simp length-set c.before.loop.invariant.2.long)
-    returns)
+    let e : c.loop-j.j ≡ c.args.at = omega arith in
+    rw e at (inserted _ _ _ _ c.loop-j.invariant.2 c.args.v (omega arith) (omega arith))
