@@ -1,11 +1,73 @@
-// What programs that read files have in common: the file that an argument names is opened, what cannot be read is said in a line, and words
-// are found by number. Each line goes to the file descriptor `to`: one program says there on standard output, another on standard error.
+// What programs that read files have in common: arguments are read, the file that one names is opened, what cannot be read is said in a
+// line, and words are found by number. Each line goes to the output `to`: one program says there on standard output, another on standard
+// error. Why something failed is told by errno's number, in Linux's numbers.
 #![tactic(auto)]
 
 ghost use Rattle.std.specs.Prelude.{◌≡◌, ◌-◌, take, drop};
+ghost use Rattle.std.specs.Io.{ReadsAtMost, WritesAtMost};
 ghost use Rattle.files.specs.Words.{is_option, line_of, behind_lines, row_of};
 
-use libc::STDIN_FILENO;
+use std::env::FillError;
+use std::fs::File;
+use std::io::{Print, Read, Stdin};
+use std::rt::Env;
+use std::{io, str};
+
+// Places for an argument: the longest path of the system has one byte less.
+pub const WORD: usize = 4096;
+
+const ENOENT: i32 = 2;
+
+const EACCES: i32 = 13;
+
+const ENOTDIR: i32 = 20;
+
+const EISDIR: i32 = 21;
+
+const ESPIPE: i32 = 29;
+
+const ENAMETOOLONG: i32 = 36;
+
+const EILSEQ: i32 = 84;
+
+// What is read: standard input, or a file that is open.
+#[derive(Drop)]
+pub enum Source {
+    Standard(Stdin),
+    Named(File),
+}
+
+impl Read for Source {
+    fn read(&mut self, buf: &mut [u8]) -> io::Result<usize> {
+        match self {
+            Source::Standard(input) => input.read(buf),
+            Source::Named(file) => file.read(buf),
+        }
+    }
+}
+
+// How many arguments there are, with the program's own name.
+pub fn arg_count(system: &impl Env) -> usize {
+    let mut word = [0u8; 1];
+    for i in 0..usize::MAX {
+        if let Err(FillError::NotPresent) = system.arg(i, &mut word) {
+            return i;
+        }
+    }
+    usize::MAX
+}
+
+// Puts an argument at the start of a buffer, and answers its length; or why it is no name: with 0 where it is empty.
+pub fn arg(system: &impl Env, i: usize, word: &mut [u8]) -> Result<usize, i32>
+    ensures { WritesAtMost result word.new }
+{
+    match system.arg(i, word) {
+        Ok(0) => Err(0),
+        Ok(n) => Ok(n),
+        Err(FillError::TooLong) => Err(ENAMETOOLONG),
+        Err(FillError::NotPresent) => Err(ENOENT),
+    }
+}
 
 // Whether an argument is an option, which begins with a dash. A dash alone is standard input.
 pub fn is_option(word: &[u8]) -> bool
@@ -17,42 +79,82 @@ pub fn is_option(word: &[u8]) -> bool
     word[0] == b'-'
 }
 
-// A file that is open for reading, or -1.
-pub fn opened(name: &[u8]) -> i32 {
+// Standard input, or a file that is opened for reading.
+pub fn opened(system: &HostRuntime, name: &[u8]) -> Result<Source, i32> {
     if keys::same_key(name, b"-") {
-        return STDIN_FILENO;
+        return Ok(Source::Standard(system.stdin()));
     }
-    os::open_read(name)
+    let file = opened_file(system, name)?;
+    Ok(Source::Named(file))
+}
+
+// A file that is opened for reading. The system's library takes no name that is not UTF-8.
+pub fn opened_file(system: &HostRuntime, name: &[u8]) -> Result<File, i32> {
+    let Ok(path) = str::from_utf8(name) else {
+        return Err(EILSEQ);
+    };
+    match File::open(system, path) {
+        Ok(file) => Ok(file),
+        Err(error) => Err(number_of(error)),
+    }
+}
+
+// One read into a buffer, and how many bytes came.
+pub fn read(source: &mut impl Read, buffer: &mut [u8]) -> Result<usize, i32>
+    ensures { ReadsAtMost result buffer.new }
+{
+    match source.read(buffer) {
+        Ok(n) => Ok(n),
+        Err(error) => Err(number_of(error)),
+    }
+}
+
+// The number of an error, or -1 where it is none of the system's.
+pub fn number_of(error: io::Error) -> i32 {
+    match error.raw_os_error() {
+        Some(number) => number,
+        None => -1,
+    }
+}
+
+// Writes all of a text, and answers whether the output took it.
+pub fn write(to: &impl Print, text: &[u8]) -> bool {
+    to.write_all(text).is_ok()
+}
+
+// Writes a number in decimal digits, and answers the same.
+pub fn write_decimal(to: &impl Print, n: u64) -> bool {
+    to.print(n).is_ok()
 }
 
 // Writes that an input cannot be read, and why, by errno's number. Standard input has no name where no argument names it.
-pub fn say_unread(to: i32, name: &[u8], error: i32) {
+pub fn say_unread(to: &impl Print, name: &[u8], error: i32) {
     if name.len() == 0 {
-        io::write_all(to, b"the input cannot be read\n");
+        write(to, b"the input cannot be read\n");
         return;
     }
-    io::write_all(to, name);
+    write(to, name);
     say_reason(to, error);
 }
 
 // The same of an argument that is no name: it is empty, or longer than a path.
-pub fn say_nameless(to: i32, i: usize, error: i32) {
-    io::write_all(to, b"argument ");
-    io::print_decimal(to, i as u64);
+pub fn say_nameless(to: &impl Print, i: usize, error: i32) {
+    write(to, b"argument ");
+    write_decimal(to, i as u64);
     say_reason(to, error);
 }
 
 // Writes that a program does not know an option.
-pub fn say_unknown(to: i32, option: &[u8], program: &[u8]) {
-    io::write_all(to, option);
-    io::write_all(to, b": unknown option; ");
-    io::write_all(to, program);
-    io::write_all(to, b" --help says what there is\n");
+pub fn say_unknown(to: &impl Print, option: &[u8], program: &[u8]) {
+    write(to, option);
+    write(to, b": unknown option; ");
+    write(to, program);
+    write(to, b" --help says what there is\n");
 }
 
 // Writes, behind a name, that it cannot be read and why, by errno's number, and a line end.
-fn say_reason(to: i32, error: i32) {
-    io::write_all(to, b": cannot be read: ");
+fn say_reason(to: &impl Print, error: i32) {
+    write(to, b": cannot be read: ");
     say_row(
         to,
         b"the name is empty\n\
@@ -62,6 +164,7 @@ fn say_reason(to: i32, error: i32) {
           it is a folder\n\
           a part of the path is no folder\n\
           it is a pipe\n\
+          the name is not UTF-8\n\
           the system refuses it\n",
         reason_row(error),
     );
@@ -70,21 +173,22 @@ fn say_reason(to: i32, error: i32) {
 fn reason_row(error: i32) -> usize {
     match error {
         0 => 0,
-        libc::ENAMETOOLONG => 1,
-        libc::ENOENT => 2,
-        libc::EACCES => 3,
-        libc::EISDIR => 4,
-        libc::ENOTDIR => 5,
-        libc::ESPIPE => 6,
-        _ => 7,
+        ENAMETOOLONG => 1,
+        ENOENT => 2,
+        EACCES => 3,
+        EISDIR => 4,
+        ENOTDIR => 5,
+        ESPIPE => 6,
+        EILSEQ => 7,
+        _ => 8,
     }
 }
 
 // Writes a row of a table and a line end. A table is a text with a line for each row: one call with a table is proved much faster than a
 // call for each row.
-pub fn say_row(to: i32, table: &[u8], row: usize) {
-    io::write_all(to, row_of(table, row));
-    io::write_all(to, b"\n");
+pub fn say_row(to: &impl Print, table: &[u8], row: usize) {
+    write(to, row_of(table, row));
+    write(to, b"\n");
 }
 
 // A row of a table, counted from 0, without its line end; nothing where there is no such row.

@@ -23,7 +23,7 @@ pub const FRAME_AREA: usize = 8 + MAX_PAYLOAD;
 pub const WORK_AREA: usize = FRAME_AREA + 8 * MAX_COMMAND;
 
 // The numbers of a frame's eight header bytes. The type is called kind here, for `type` is a word of the language.
-#[derive(Drop)]
+#[derive(Clone, Copy)]
 pub struct Header {
     pub length: usize,
     pub request: u16,
@@ -34,6 +34,7 @@ pub struct Header {
 }
 
 // Whether a flag of this value is set.
+#[tactic(auto, unfolding(crate::specs::Frame::flag))]
 fn is_set(value: u8, flags: u8) -> bool
     requires { 0 < value }
     ensures { result ≡ flag value flags }
@@ -43,36 +44,42 @@ fn is_set(value: u8, flags: u8) -> bool
 
 // The flags, by their names in document 01.
 impl Header {
+    #[tactic(auto, unfolding(crate::specs::Frame::begins))]
     pub fn begins(self) -> bool
         ensures { result ≡ begins (framed self []) }
     {
         is_set(0x01, self.stream_flags)
     }
 
+    #[tactic(auto, unfolding(crate::specs::Frame::ends))]
     pub fn ends(self) -> bool
         ensures { result ≡ ends (framed self []) }
     {
         is_set(0x02, self.stream_flags)
     }
 
+    #[tactic(auto, unfolding(crate::specs::Frame::is_new))]
     pub fn is_new(self) -> bool
         ensures { result ≡ is_new (framed self []) }
     {
         is_set(0x01, self.flags)
     }
 
+    #[tactic(auto, unfolding(crate::specs::Frame::is_more))]
     pub fn is_more(self) -> bool
         ensures { result ≡ is_more (framed self []) }
     {
         is_set(0x04, self.flags)
     }
 
+    #[tactic(auto, unfolding(crate::specs::Frame::data_follows))]
     pub fn data_follows(self) -> bool
         ensures { result ≡ data_follows (framed self []) }
     {
         is_set(0x08, self.flags)
     }
 
+    #[tactic(auto, unfolding(crate::specs::Frame::is_last))]
     pub fn is_last(self) -> bool
         ensures { result ≡ is_last (framed self []) }
     {
@@ -80,6 +87,7 @@ impl Header {
     }
 
     // Rule 18.
+    #[tactic(auto, unfolding(crate::specs::Frame::is_type, crate::specs::Frame::flags_fit))]
     pub fn flags_fit(self) -> bool
         ensures { result ≡ flags_fit (framed self []) }
     {
@@ -113,6 +121,7 @@ pub fn byte_at(s: &[u8], i: usize) -> u8
 }
 
 // The payload length that a frame's first three bytes claim.
+#[tactic(auto, unfolding(crate::specs::Header::length_of))]
 pub fn payload_length(frame: &[u8]) -> usize
     ensures { result ≡ length_of frame.now }
 {
@@ -123,6 +132,7 @@ pub fn payload_length(frame: &[u8]) -> usize
 }
 
 // The header at the front of a frame.
+#[tactic(auto, unfolding(crate::specs::Header::header_of))]
 pub fn read_header(frame: &[u8]) -> Header
     ensures { result ≡ header_of frame.now }
 {
@@ -141,6 +151,7 @@ pub fn read_header(frame: &[u8]) -> Header
 }
 
 // Puts a header's eight bytes into a buffer from a place on, as far as the buffer goes.
+#[tactic(auto, unfolding(crate::specs::Header::header_bytes))]
 pub fn put_header(out: &mut [u8], at: usize, h: Header)
     ensures { out.new ≡ write out.old at (header_bytes h) }
 {

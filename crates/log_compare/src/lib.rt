@@ -12,7 +12,7 @@ ghost use Rattle.log_compare.specs.Entries.{entry_told, told_of};
 
 // A record that is not the same in the two logs, by its number, from 1 on: one that both have, with the length of each body; or one that only
 // the first log has, or only the second, with its body's length.
-#[derive(Drop)]
+#[derive(Clone, Copy)]
 pub enum Entry {
     Both(u64, u64, u64),
     First(u64, u64),
@@ -20,21 +20,21 @@ pub enum Entry {
 }
 
 // What is said: an entry, or nothing.
-#[derive(Drop)]
+#[derive(Clone, Copy)]
 pub enum Said {
     Nothing,
     Says(Entry),
 }
 
 // The first log that ends inside a record, 1 or 2, and the place, from 0, where that record starts; 0 and 0 if both are whole.
-#[derive(Drop)]
+#[derive(Clone, Copy)]
 pub struct Broken {
     pub log: u32,
     pub place: u64,
 }
 
 // Where a comparison of lent logs stands: the number of the next record, and where it starts in each log.
-#[derive(Drop)]
+#[derive(Clone, Copy)]
 pub struct Place {
     pub number: u64,
     pub first: usize,
@@ -42,7 +42,7 @@ pub struct Place {
 }
 
 // What is said from a place on, and the place behind that record.
-#[derive(Drop)]
+#[derive(Clone, Copy)]
 pub struct Found {
     pub said: Said,
     pub next: Place,
@@ -51,7 +51,7 @@ pub struct Found {
 // The record under way in a log that comes in pieces: the bytes of its head that came so far, the first `held % 6` of `head`, and what is
 // left of a body.
 #[repr(C)]
-#[derive(Drop)]
+#[derive(Clone, Copy)]
 pub struct Partial {
     pub head: [u8; 6],
     pub held: usize,
@@ -59,7 +59,7 @@ pub struct Partial {
 }
 
 // A record's head: the body's length, and the bytes of the kind.
-#[derive(Drop)]
+#[derive(Clone, Copy)]
 struct Head {
     length: u64,
     low: u8,
@@ -68,7 +68,7 @@ struct Head {
 
 // Where the reading of a log for breaks stands: the record under way, the place where it starts, and how many bytes were taken.
 #[repr(C)]
-#[derive(Drop)]
+#[derive(Clone, Copy)]
 pub struct Scanning {
     pub under: Partial,
     pub start: u64,
@@ -78,7 +78,7 @@ pub struct Scanning {
 // Where a comparison of logs in pieces stands: the number of the record under way, the length of its body, what is under way in each log, and
 // whether the bodies are still to be compared, 1 for yes: then they have one length, and are alike so far.
 #[repr(C)]
-#[derive(Drop)]
+#[derive(Clone, Copy)]
 pub struct Comparing {
     pub number: u64,
     pub length: u64,
@@ -88,7 +88,7 @@ pub struct Comparing {
 }
 
 // Where it then stands, the bytes taken of each piece, and what is said.
-#[derive(Drop)]
+#[derive(Clone, Copy)]
 pub struct Step {
     pub state: Comparing,
     pub first: usize,
@@ -98,7 +98,7 @@ pub struct Step {
 
 // What is said, in numbers: which logs have the record, 1 the first, 2 the second, 3 both, and 0 for nothing; the record's number; and the
 // body's length in each log, 0 where it has none.
-#[derive(Drop)]
+#[derive(Clone, Copy)]
 pub struct Told {
     pub logs: u32,
     pub number: u64,

@@ -9,14 +9,14 @@ ghost use Rattle.logs.specs.Convert.{wider, convert_of};
 ghost use Rattle.logs.specs.Steps.{end_of};
 
 // The converter's answer: 0 or the refusal, and the bytes written.
-#[derive(Drop)]
+#[derive(Clone, Copy)]
 pub struct Converted {
     pub number: u32,
     pub written: usize,
 }
 
 // The whole records in front of a log: the bytes that they take, and those that they take when rewritten.
-#[derive(Drop)]
+#[derive(Clone, Copy)]
 struct Front {
     length: usize,
     total: usize,

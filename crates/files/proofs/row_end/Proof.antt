@@ -11,10 +11,10 @@ use Rattle.files.proofs.Lines.{line-ends, line-goes-on, no_line}
 use Rattle.files.proofs.row_end.Statement.{statement}
 use Rattle.files.proofs.row_end.Tie as tie
 
-abbrev invariant-loop : tie.invariant-loop
+abbrev invariant-loop : tie.invariant-loop-i
 invariant-loop table from i₀ i = (from ≤ i) × (line_of (drop from table) ≡ take (i - from) (drop from table) ++ line_of (drop i table))
 
-abbrev decreases-loop : tie.decreases-loop
+abbrev decreases-loop : tie.decreases-loop-i
 decreases-loop table from i₀ i = length table - i
 
 at_first : (table : List ℕ) (from : ℕ) → line_of (drop from table) ≡ take (from - from) (drop from table) ++ line_of (drop from table)
@@ -34,26 +34,26 @@ module _ (table : List ℕ) (from i : ℕ) (e : line_of (drop from table) ≡ ta
       take-suc (drop from table) (i - from) 0 l ∙ rw (get_or-drop from table (i - from) 0, p) in
       e ∙ rw (line-goes-on table i h n, k, t) (sym (append_assoc (take (i - from) (drop from table)) (get_or table i 0 ∷ []) (line_of (drop (i + 1) table))))
 
-returns : tie.Need-returns invariant-loop decreases-loop
+returns : tie.Need-returns-then-table-i-eq10 invariant-loop decreases-loop
 returns c =
     let l = c.before.before.before in
     let a = l.before.args in
-    at-end a.table.now a.from l.loop.i l.loop.invariant.1 (line-ends a.table.now l.loop.i c.before.before.loop-test.true c.if1.true)
+    at-end a.table.now a.from l.loop-i.i l.loop-i.invariant.1 (line-ends a.table.now l.loop-i.i c.before.before.loop-i-test.true c.if-table-i-eq10.true)
 
-loop-again : tie.Need-loop-preserved invariant-loop decreases-loop
+loop-again : tie.Need-loop-i-preserved invariant-loop decreases-loop
 loop-again c =
     let l = c.before.before.before in
     let a = l.before.args in
-    (omega arith, on a.table.now a.from l.loop.i l.loop.invariant.1 (omega arith) c.before.before.loop-test.true c.if1.false)
+    (omega arith, on a.table.now a.from l.loop-i.i l.loop-i.invariant.1 (omega arith) c.before.before.loop-i-test.true c.if-table-i-eq10.false)
 
-returns-2 : tie.Need-returns-2 invariant-loop decreases-loop
+returns-2 : tie.Need-returns invariant-loop decreases-loop
 returns-2 c =
     let l = c.before in
     let a = l.before.args in
-    at-end a.table.now a.from l.loop.i l.loop.invariant.1 (no_line a.table.now l.loop.i (omega arith))
+    at-end a.table.now a.from l.loop-i.i l.loop-i.invariant.1 (no_line a.table.now l.loop-i.i (omega arith))
 
-pub row-end-spec : {M : Type 1} → statement M
-row-end-spec =
+pub row_end_spec : {M : Type 1} → statement M
+row_end_spec =
     tie.close
     (tie.spec
     invariant-loop

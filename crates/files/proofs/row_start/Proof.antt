@@ -11,38 +11,38 @@ use Rattle.files.proofs.Lines.{passes-end, passes-other, nothing-behind}
 use Rattle.files.proofs.row_start.Statement.{statement}
 use Rattle.files.proofs.row_start.Tie as tie
 
-abbrev invariant-loop : tie.invariant-loop
+abbrev invariant-loop : tie.invariant-loop-i
 invariant-loop table row left₀ i₀ left i = (i ≤ length table) × (behind_lines left (drop i table) ≡ behind_lines row table)
 
-abbrev decreases-loop : tie.decreases-loop
+abbrev decreases-loop : tie.decreases-loop-i
 decreases-loop table row left₀ i₀ left i = length table - i
 
 found : (s : List ℕ) (n : ℕ) (t : List ℕ) → n ≡ 0 → behind_lines n s ≡ t → s ≡ t
 unfolding behind_lines
 found s n t z e = rw z at e
 
-returns : tie.Need-returns invariant-loop decreases-loop
-returns c = found _ _ _ c.if1.true c.before.before.loop.invariant.1
+returns : tie.Need-returns-then-left-eq0 invariant-loop decreases-loop
+returns c = found _ _ _ c.if-left-eq0.true c.before.before.loop-i.invariant.1
 
-loop-again : tie.Need-loop-preserved invariant-loop decreases-loop
+loop-again : tie.Need-loop-i-preserved invariant-loop decreases-loop
 loop-again c =
     let l = c.before.before.before.before in
-    let e = l.loop.invariant.1 in
-    let h = c.before.before.before.loop-test.true in
-    let z = c.before.before.if1.false in (
+    let e = l.loop-i.invariant.1 in
+    let h = c.before.before.before.loop-i-test.true in
+    let z = c.before.before.if-left-eq0.false in (
       omega arith,
-      ⊎_elim (λ k. rw k.1 (sym (passes-end _ _ h _ (omega arith) k.0.taken) ∙ e))
-          (λ k. rw k.1 (sym (passes-other _ _ h _ (omega arith) k.0.left) ∙ e))
-          c.if2.branch,
+      ⊎_elim (λ k. rw k.left-is (sym (passes-end _ _ h _ (omega arith) k.if-table-i-eq10.true) ∙ e))
+          (λ k. rw k.left-is (sym (passes-other _ _ h _ (omega arith) k.if-table-i-eq10.false) ∙ e))
+          c.if-table-i-eq10.branch-raw,
     )
 
-returns-2 : tie.Need-returns-2 invariant-loop decreases-loop
+returns-2 : tie.Need-returns invariant-loop decreases-loop
 returns-2 c =
     let l = c.before in
-    nothing-behind l.before.args.table.now l.loop.i (omega arith) _ ∙ l.loop.invariant.1
+    nothing-behind l.before.args.table.now l.loop-i.i (omega arith) _ ∙ l.loop-i.invariant.1
 
-pub row-start-spec : {M : Type 1} → statement M
-row-start-spec =
+pub row_start_spec : {M : Type 1} → statement M
+row_start_spec =
     tie.close
     (tie.spec
     invariant-loop
