@@ -2,27 +2,24 @@
 -- Assumes nothing.
 use mathlib.Core.Path.{◌≡◌, refl, ◌∙◌}
 use mathlib.Core.Bool.{Bool, true, false}
-use mathlib.Core.List.{List, [], ◌∷◌}
+use mathlib.Core.List.{List}
 use Prim.Native.Nat.{ℕ, ◌+◌, ◌≤◌, ◌<◌}
 use native.Mathlib.Omega.{arith}
 use lib.ListN.{get_or}
 use lib.Dec.{ltb}
 use borrow.Author.Tests.{ltb-true, ltb-false}
-use denote.Enum.Declared.{tag_of}
-use types.Run.{OneOf, miss}
 use Rattle.keys.specs.declared.Order.{Order}
 use Rattle.keys.specs.declared.Order.TheVariants.{Before, Same, After}
 use Rattle.keys.specs.Keys.{equal}
 use Rattle.keys.specs.Order.{compare}
-use Rattle.keys.specs.contracts.Order.{the_type}
 use Rattle.keys.proofs.Equal.{equal-sym}
 use Rattle.keys.proofs.Before.{Less, less_trans, less_differs, before, after}
 use Rattle.double_keys.specs.Search.{key_of}
 
 -- a key that is neither at another's place nor before it stands after it
-pub is-after : (o : Order) → OneOf (0 ∷ 2 ∷ []) (tag_of the_type o) → OneOf (1 ∷ 2 ∷ []) (tag_of the_type o) → o ≡ After
-is-after Before h k = absurd (miss (1 ∷ 2 ∷ []) 0 tt k)
-is-after Same h k = absurd (miss (0 ∷ 2 ∷ []) 1 tt h)
+pub is-after : (o : Order) → (o ≡ Same → ⊥) → (o ≡ Before → ⊥) → o ≡ After
+is-after Before h k = absurd (k refl)
+is-after Same h k = absurd (h refl)
 is-after After h k = refl
 
 module _ (s starts stops row : List ℕ) where

@@ -11,8 +11,6 @@ use lib.ListN.{length, take, set, get_or, length-set}
 use lib.Dec.{ltb, leb}
 use lib.Seq.{take-suc-set, length-take-le}
 use borrow.Author.Tests.{leb-true, ltb-true, ltb-false}
-use denote.Enum.Declared.{tag_of}
-use types.Run.{OneOf}
 use Rattle.cbor.specs.declared.Next.{Next}
 use Rattle.cbor.specs.declared.Next.TheVariants.{At, Bad}
 use Rattle.cbor.specs.Cbor.{repeat, pair, value}
@@ -23,7 +21,6 @@ use Rattle.entries.specs.declared.Entry.{Entry}
 use Rattle.entries.specs.declared.Entry.TheVariants.{Keyed, Other, Broken}
 use Rattle.entries.specs.Entries.{next_of, entry_at, entries, contents}
 use Rattle.double_keys.specs.Row.{kept, within, sound, row_double, room_for, kept_count, kept_starts, kept_stops, Keeps, RowAnswers}
-use Rattle.entries.specs.contracts.Entry.{the_type}
 use Rattle.double_keys.specs.Search.{Places}
 use Rattle.entries.proofs.Folds.{not-keyed}
 use Rattle.entries.proofs.Bools.{and_left, and_right}
@@ -57,7 +54,7 @@ module _ (starts stops : List ℕ) (k : ℕ) (e : Entry) where
     unfolding kept_count kept_starts kept_stops
     room h = record { count = rw (i, h); starts_after = rw (i, h); stops_after = rw (i, h) }
 
-  pub no_key : OneOf (1 ∷ 2 ∷ []) (tag_of the_type e) → Keeps starts stops starts stops k e k
+  pub no_key : ((start stop next : ℕ) → e ≡ Keyed start stop next → ⊥) → Keeps starts stops starts stops k e k
   unfolding kept_count kept_starts kept_stops
   no_key h = record { count = rw (not-keyed e h); starts_after = rw (not-keyed e h); stops_after = rw (not-keyed e h) }
 

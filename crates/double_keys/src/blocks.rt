@@ -13,7 +13,7 @@ use entries::Entry;
 use keys::Order;
 
 // What is known once a block is taken: how many keys it has, how many entries follow it, and where.
-#[derive(Drop)]
+#[derive(Clone, Copy)]
 struct Block {
     count: usize,
     left: u64,

@@ -14,7 +14,7 @@ use cbor::Next;
 use entries::Entry;
 
 // The keys of a map: byte strings, each once; byte strings, one of them twice; not all byte strings.
-#[derive(Drop)]
+#[derive(Clone, Copy)]
 pub enum Keys {
     Single,
     Double,
@@ -22,7 +22,7 @@ pub enum Keys {
 }
 
 // What putting keys' places into a row found: byte strings only, and how many places there are, or another key.
-#[derive(Drop)]
+#[derive(Clone, Copy)]
 enum Kept {
     Strings(usize),
     Mixed,

@@ -77,20 +77,20 @@ module _ (s : List ℕ) where
   contents-more Broken es = refl
 
   -- a key stands among the contents exactly if an entry with it is found
-  found_among : (key : List ℕ) (e : Entry) (es : List Entry) → among (contents s es) key ≡ is_keyed (find s key es) → among (contents s (e ∷ es)) key ≡ is_keyed (cond (has_key s key e) e (find s key es))
+  found_among : (k : List ℕ) (e : Entry) (es : List Entry) → among (contents s es) k ≡ is_keyed (find s k es) → among (contents s (e ∷ es)) k ≡ is_keyed (cond (has_key s k e) e (find s k es))
   unfolding contents among
-  found_among key (Keyed start stop next) es h = by (equal key (part s start stop))
+  found_among k (Keyed start stop next) es h = by (equal k (part s start stop))
     where
-      by : (b : Bool) → (b || among (contents s es) key) ≡ is_keyed (cond b (Keyed start stop next) (find s key es))
+      by : (b : Bool) → (b || among (contents s es) k) ≡ is_keyed (cond b (Keyed start stop next) (find s k es))
       by true = refl
       by false = h
-  found_among key (Other next) es h = h
-  found_among key Broken es h = h
+  found_among k (Other next) es h = h
+  found_among k Broken es h = h
 
-  pub among-find : (key : List ℕ) (es : List Entry) → among (contents s es) key ≡ is_keyed (find s key es)
+  pub among-find : (k : List ℕ) (es : List Entry) → among (contents s es) k ≡ is_keyed (find s k es)
   unfolding contents among find
-  among-find key [] = refl
-  among-find key (e ∷ es) = found_among key e es (among-find key es)
+  among-find k [] = refl
+  among-find k (e ∷ es) = found_among k e es (among-find k es)
 
   -- a key stands twice in a list if its first key stands again in the rest, or one stands twice there
   pub twice-more : (e : Entry) (es : List Entry) → twice (contents s (e ∷ es)) ≡ (again s e es || twice (contents s es))

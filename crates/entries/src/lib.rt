@@ -8,7 +8,7 @@ use cbor::{Item, Next};
 
 // An entry of a map. Of a key that is a byte string, the content runs from start to stop and the value from stop to next. Another key
 // has only the position after its value. Broken: no key of the subset, or no value.
-#[derive(Drop)]
+#[derive(Clone, Copy)]
 pub enum Entry {
     Keyed {
         start: usize,
