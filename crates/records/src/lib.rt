@@ -15,6 +15,7 @@ pub struct Head {
 }
 
 // The head of a record. A byte that is not there counts as 0.
+#[tactic(auto, unfolding(crate::specs::Records::head_of))]
 pub fn read_head(bytes: &[u8]) -> Head
     ensures { result ≡ head_of bytes.now }
 {
@@ -36,6 +37,7 @@ pub fn content(bytes: &[u8]) -> &[u8]
 
 impl Head {
     // Whether a record makes its request run: a command that no data follows, loosely written or not, or the last data.
+    #[tactic(auto, unfolding(crate::specs::Records::runs))]
     pub fn runs(self) -> bool
         ensures { result ≡ runs self }
     {
@@ -44,6 +46,7 @@ impl Head {
 }
 
 // The number in two bytes from a place on, the lower first.
+#[tactic(auto, unfolding(crate::specs::Records::number_at))]
 fn number_at(s: &[u8], i: usize) -> u16
     requires { i < 8 }
     ensures { result ≡ number_at s.now i }

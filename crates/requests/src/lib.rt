@@ -36,6 +36,7 @@ pub enum Want {
 }
 
 // The number of a phase: 0 free, 1 collecting, 2 waiting, 3 running, 4 draining.
+#[tactic(auto, unfolding(crate::specs::Phases::code))]
 pub fn phase_code(p: Phase) -> u8
     ensures { result ≡ code p }
 {
@@ -49,6 +50,7 @@ pub fn phase_code(p: Phase) -> u8
 }
 
 // Whether a phase is this one.
+#[tactic(auto, unfolding(crate::specs::Phases::is_phase))]
 pub fn is_phase(p: Phase, q: Phase) -> bool
     ensures { result ≡ is_phase p q }
 {
@@ -62,6 +64,7 @@ pub fn takes_data(p: Phase) -> bool
     is_phase(Phase::Waiting, p) | is_phase(Phase::Draining, p)
 }
 
+#[tactic(auto, unfolding(frame::specs::Frame::is_even))]
 fn is_even(n: u16) -> bool
     ensures { result ≡ is_even n }
 {
@@ -82,6 +85,7 @@ impl Slot {
     }
 
     // The slot with its request in another phase.
+    #[tactic(auto, unfolding(crate::specs::Slots::enter))]
     fn enter(self, phase: Phase) -> Slot
         ensures { result ≡ enter phase self }
     {
@@ -102,6 +106,7 @@ impl Slot {
     }
 
     // Whether a used slot holds this id.
+    #[tactic(auto, unfolding(crate::specs::Slots::is_id))]
     fn is_id(self, id: u16) -> bool
         ensures { result ≡ is_id id self }
     {
@@ -112,6 +117,7 @@ impl Slot {
     }
 
     // What rule 3 asks of a slot by itself.
+    #[tactic(auto, unfolding(crate::specs::Slots::slot_fits))]
     fn fits(self) -> bool
         ensures { result ≡ slot_fits self }
     {
@@ -126,6 +132,7 @@ impl Slot {
     }
 
     // Whether no used slot from an index on holds the slot's id.
+    #[tactic(auto, unfolding(crate::specs::Slots::apart))]
     fn is_apart(self, slots: [Slot; 8], from: usize) -> bool
         ensures { result ≡ apart self (drop from slots) }
     {
@@ -136,6 +143,7 @@ impl Slot {
     }
 
     // 1 for a used slot, 0 for a free one.
+    #[tactic(auto, unfolding(crate::specs::Slots::used_bit))]
     pub fn used_bit(self) -> u8
         ensures { result ≡ used_bit self }
     {
@@ -254,6 +262,7 @@ pub fn command_slot(h: Header, size: usize) -> Slot
 }
 
 // A request's slot after a data frame.
+#[tactic(auto, unfolding(crate::specs::Slots::data_slot))]
 pub fn data_slot(x: Slot, h: Header) -> Slot
     ensures { result ≡ data_slot x (framed h []) }
 {
@@ -274,6 +283,7 @@ pub fn can_finish(p: Phase) -> bool
 }
 
 // A request's slot after a finish that is accepted.
+#[tactic(auto, unfolding(crate::specs::Slots::finish_slot))]
 pub fn finish_slot(x: Slot) -> Slot
     ensures { result ≡ finish_slot x }
 {

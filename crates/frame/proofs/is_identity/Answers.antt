@@ -1,0 +1,23 @@
+-- `frame::is_identity` meets its contract, by the item at the payload's start, its end and its content.
+-- Assumes nothing.
+use Rattle.std.proofs.Common.{◌≡◌, Bool, false, refl}
+use borrow.Author.Tests.{eq-eqb, ne_eqb}
+use Rattle.cbor.proofs.Folds.{by_bytes}
+use Rattle.frame.specs.Settings.{is_identity}
+use Rattle.frame.proofs.is_identity.Goals as goal
+
+-- an item that is no byte string
+pub returns-in_default : goal.returns-in_default
+unfolding is_identity
+returns-in_default c =
+    rw (← c.read_item.ensures)
+    (by_bytes (λ (b : Bool). false ≡ b) c.read_item.result _ false (λ start stop e. absurd (c.in_default.not-Bytes start stop e)) refl)
+
+-- a byte string that ends before the payload
+pub returns-then-stop-payload : goal.returns-then-stop-payload
+unfolding is_identity
+returns-then-stop-payload c = rw (← c.read_item.ensures, c.in-Bytes.is, ne_eqb _ _ c.if-stop-payload.true)
+
+pub returns : goal.returns
+unfolding is_identity
+returns c = rw (← c.read_item.ensures, c.in-Bytes.is, eq-eqb _ _ c.if-stop-payload.false, ← c.part.ensures) c.same_key.ensures
