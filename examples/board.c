@@ -1,6 +1,6 @@
 /* The main loop of a board with sixteen coils: standard input stands for the
  * serial line, and what the coils do is printed. From the repository's folder,
- * with the archive made by `rt staticlib hgrpc`:
+ * with the archive made by `./build hgrpc`:
  *
  *     cc -O2 -Iinclude examples/board.c target/staticlib/libhgrpc.a -o target/board
  *     target/board <samples/coils.capture */

@@ -1,5 +1,5 @@
 //! Writes the frames of one request to standard output, from words. From the
-//! repository's folder, with the archive made by `rt staticlib hgrpc`:
+//! repository's folder, with the archive made by `./build hgrpc`:
 //!
 //!     rustc --edition 2021 -O -L native=target/staticlib -l static=hgrpc examples/send.rs -o target/send
 //!     target/send set coil=3 on=true | target/bin/receive

@@ -25,7 +25,7 @@ tells() {
 for name in good bad; do cmp "$out/samples/$name.log" "samples/$name.log"; done
 section=$(sed -n '/^## Compare two stored logs$/,/^## Call/p' README.md)
 together=$(block "$section" 1)
-[[ $together == 'rt check logdiff | grep ^rt: && '* ]] || { echo "the README does not build logdiff"; exit 1; }
+[[ $together == './build logdiff && '* ]] || { echo "the README does not build logdiff"; exit 1; }
 printed=$(bash -euc "${together#*&& }" 2>&1)
 page=$(sed -n '/^## What logdiff writes$/,$p' samples/README.md)
 [ -n "$printed" ] && [ "$printed" = "$(block "$section" 2)" ] && [ "$printed" = "$(block "$page" 2)" ] || {

@@ -5,15 +5,15 @@ use Rattle.log_compare.specs.Entries.{told_of}
 use Rattle.log_compare.proofs.tell.Statement.{statement}
 use Rattle.log_compare.proofs.tell.Tie as tie
 
-returns : tie.Need-returns
+returns : tie.Need-returns-in-Says
 unfolding told_of
-returns c = rw c.before.before.said.given.1 c.tell-entry.ensures
+returns c = rw c.in-Says.is c.tell_entry.ensures
 
-returns-2 : tie.Need-returns-2
+returns-2 : tie.Need-returns-in-Nothing
 unfolding told_of
-returns-2 c = rw c.before.enum_told.given.1 c.in-numbers.ensures
+returns-2 c = rw c.in-Nothing.is c.in_numbers.ensures
 
-pub tell-spec : {M : Type 1} → statement M
-tell-spec =
+pub tell_spec : {M : Type 1} → statement M
+tell_spec =
     tie.close
     (tie.spec (λ c. search rules) (λ c κs. search rules) (λ c. search rules) (λ c κs. search rules) returns returns-2)

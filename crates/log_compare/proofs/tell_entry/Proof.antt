@@ -5,20 +5,20 @@ use Rattle.log_compare.specs.Entries.{entry_told}
 use Rattle.log_compare.proofs.tell_entry.Statement.{statement}
 use Rattle.log_compare.proofs.tell_entry.Tie as tie
 
-returns : tie.Need-returns
+returns : tie.Need-returns-in-Both
 unfolding entry_told
-returns c = rw c.before.before.entry.given.1 c.in-numbers.ensures
+returns c = rw c.in-Both.is c.in_numbers.ensures
 
-returns-2 : tie.Need-returns-2
+returns-2 : tie.Need-returns-in-First
 unfolding entry_told
-returns-2 c = rw c.before.before.entry2.given.1 c.in-numbers2.ensures
+returns-2 c = rw c.in-First.is c.in_numbers-in-First.ensures
 
-returns-3 : tie.Need-returns-3
+returns-3 : tie.Need-returns-in-Second
 unfolding entry_told
-returns-3 c = rw c.before.before.entry3.given.1 c.in-numbers3.ensures
+returns-3 c = rw c.in-Second.is c.in_numbers-in-Second.ensures
 
-pub tell-entry-spec : {M : Type 1} → statement M
-tell-entry-spec =
+pub tell_entry_spec : {M : Type 1} → statement M
+tell_entry_spec =
     tie.close
     (tie.spec
     (λ c. search rules)

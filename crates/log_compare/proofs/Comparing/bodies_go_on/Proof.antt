@@ -10,28 +10,28 @@ use Rattle.log_compare.proofs.Comparing.bodies_go_on.Tie as tie
 compared-bytes : (left m n x k : ℕ) → x ≡ min left m → k ≡ min x n → k ≡ min left (min m n)
 compared-bytes left m n x k e f = omega arith
 
-returns : tie.Need-returns
+returns : tie.Need-returns-then-same_key
 unfolding standing under_way
 returns c =
     let s = c.before.before.before.before.before.before.before.before.before in
-    let k = compared-bytes _ _ _ _ _ c.before.before.before.before.before.before.at_most.ensures c.before.before.before.before.before.at-most2.ensures in
-    let p = taken c.before.before.before.before.part.ensures k (omega arith) in
-    let q = taken c.before.before.before.part2.ensures k (omega arith) in
+    let k = compared-bytes _ _ _ _ _ c.at_most-n.ensures c.at_most-k.ensures in
+    let p = taken c.part-x.ensures k (omega arith) in
+    let q = taken c.part-y.ensures k (omega arith) in
     c.moved.ensures
-    ∙ go_law (standing s.args.self) s.args.a.now s.args.b.now p q true (sym c.before.before.same_key.ensures ∙ c.before.if1.true)
+    ∙ go_law (standing s.args.self) s.args.a.now s.args.b.now p q true (sym c.same_key.ensures ∙ c.if-same_key.true)
 
-returns-2 : tie.Need-returns-2
+returns-2 : tie.Need-returns
 unfolding standing under_way
 returns-2 c =
     let s = c.before.before.before.before.before.before.before.before.before in
-    let k = compared-bytes _ _ _ _ _ c.before.before.before.before.before.before.at_most.ensures c.before.before.before.before.before.at-most2.ensures in
-    let p = taken c.before.before.before.before.part.ensures k (omega arith) in
-    let q = taken c.before.before.before.part2.ensures k (omega arith) in
-    c.moved2.ensures
-    ∙ go_law (standing s.args.self) s.args.a.now s.args.b.now p q false (sym c.before.before.same_key.ensures ∙ c.before.if1.false)
+    let k = compared-bytes _ _ _ _ _ c.at_most-n.ensures c.at_most-k.ensures in
+    let p = taken c.part-x.ensures k (omega arith) in
+    let q = taken c.part-y.ensures k (omega arith) in
+    c.moved-2.ensures
+    ∙ go_law (standing s.args.self) s.args.a.now s.args.b.now p q false (sym c.same_key.ensures ∙ c.if-same_key.false)
 
-pub bodies-go-on-spec : {M : Type 1} → statement M
-bodies-go-on-spec =
+pub bodies_go_on_spec : {M : Type 1} → statement M
+bodies_go_on_spec =
     tie.close
     (tie.spec
     (λ c κs. search rules)

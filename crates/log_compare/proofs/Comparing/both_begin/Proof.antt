@@ -6,28 +6,28 @@ use Rattle.log_compare.proofs.Moved.{taken, both_law}
 use Rattle.log_compare.proofs.Comparing.both_begin.Statement.{statement}
 use Rattle.log_compare.proofs.Comparing.both_begin.Tie as tie
 
-returns : tie.Need-returns
+returns : tie.Need-returns-then-one-two
 unfolding standing
 returns c =
     let s = c.before.before.before.before.before.before.before.before.before.before.before.before.before.before.before.before.before in
-    let p = taken c.before.before.before.before.before.before.before.before.before.before.part.ensures c.before.before.before.before.before.before.before.before.before.before.before.missing.ensures s.requires.0 in
-    let q = taken c.before.before.before.before.before.before.before.before.part2.ensures c.before.before.before.before.before.before.before.before.before.missing2.ensures s.requires.1 in
+    let p = taken c.part-x.ensures c.missing.ensures s.requires.0 in
+    let q = taken c.part-y.ensures c.missing-2.ensures s.requires.1 in
     c.moved.ensures
-    ∙ both_law (standing s.args.self) s.args.a.now s.args.b.now p q c.before.before.before.before.before.before.before.before.before.before.before.before.wrapping-add-u64.ensures
-    c.before.before.before.before.before.before.before.before.before.before.before.before.before.before.head_at.ensures c.before.before.before.before.before.before.before.before.before.before.before.before.before.head-at2.ensures true c.before.if1.true
+    ∙ both_law (standing s.args.self) s.args.a.now s.args.b.now p q c.wrapping_add_u64-number.ensures
+    c.head_at-one.ensures c.head_at-two.ensures true c.if-one-two.true
 
-returns-2 : tie.Need-returns-2
+returns-2 : tie.Need-returns
 unfolding standing
 returns-2 c =
     let s = c.before.before.before.before.before.before.before.before.before.before.before.before.before.before.before.before.before in
-    let p = taken c.before.before.before.before.before.before.before.before.before.before.part.ensures c.before.before.before.before.before.before.before.before.before.before.before.missing.ensures s.requires.0 in
-    let q = taken c.before.before.before.before.before.before.before.before.part2.ensures c.before.before.before.before.before.before.before.before.before.missing2.ensures s.requires.1 in
-    c.moved2.ensures
-    ∙ both_law (standing s.args.self) s.args.a.now s.args.b.now p q c.before.before.before.before.before.before.before.before.before.before.before.before.wrapping-add-u64.ensures
-    c.before.before.before.before.before.before.before.before.before.before.before.before.before.before.head_at.ensures c.before.before.before.before.before.before.before.before.before.before.before.before.before.head-at2.ensures false c.before.if1.false
+    let p = taken c.part-x.ensures c.missing.ensures s.requires.0 in
+    let q = taken c.part-y.ensures c.missing-2.ensures s.requires.1 in
+    c.moved-2.ensures
+    ∙ both_law (standing s.args.self) s.args.a.now s.args.b.now p q c.wrapping_add_u64-number.ensures
+    c.head_at-one.ensures c.head_at-two.ensures false c.if-one-two.false
 
-pub both-begin-spec : {M : Type 1} → statement M
-both-begin-spec =
+pub both_begin_spec : {M : Type 1} → statement M
+both_begin_spec =
     tie.close
     (tie.spec
     (λ c κs. search rules)

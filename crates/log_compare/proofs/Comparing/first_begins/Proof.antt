@@ -10,13 +10,13 @@ returns : tie.Need-returns
 unfolding standing
 returns c =
     let s = c.before.before.before.before.before.before.before.before in
-    let p = taken c.before.before.part.ensures c.before.before.before.missing.ensures s.requires in
-    let q = taken c.before.part2.ensures refl (omega arith) in
+    let p = taken c.part-x.ensures c.missing.ensures s.requires in
+    let q = taken c.part.ensures refl (omega arith) in
     c.moved.ensures
-    ∙ first_law (standing s.args.self) s.args.a.now s.args.b.now p q c.before.before.before.before.wrapping-add-u64.ensures c.before.before.before.before.before.head_at.ensures
+    ∙ first_law (standing s.args.self) s.args.a.now s.args.b.now p q c.wrapping_add_u64-number.ensures c.head_at-one.ensures
 
-pub first-begins-spec : {M : Type 1} → statement M
-first-begins-spec =
+pub first_begins_spec : {M : Type 1} → statement M
+first_begins_spec =
     tie.close
     (tie.spec
     (λ c κs. search rules)

@@ -10,12 +10,12 @@ returns : tie.Need-returns
 unfolding standing
 returns c =
     let s = c.before.before.before.before.before.before.before in
-    let p = taken c.before.before.before.part.ensures c.before.before.before.before.waiting.ensures (omega arith) in
-    let q = taken c.before.part2.ensures c.before.before.waiting2.ensures (omega arith) in
+    let p = taken c.part-x.ensures c.waiting.ensures (omega arith) in
+    let q = taken c.part-y.ensures c.waiting-2.ensures (omega arith) in
     c.moved.ensures ∙ wait_law (standing s.args.self) s.args.a.now s.args.b.now p q
 
-pub heads-wait-spec : {M : Type 1} → statement M
-heads-wait-spec =
+pub heads_wait_spec : {M : Type 1} → statement M
+heads_wait_spec =
     tie.close
     (tie.spec
     (λ c κs. search rules)

@@ -7,7 +7,7 @@ use Rattle.log_compare.proofs.Comparing.is_end.Tie as tie
 
 returns : tie.Need-returns
 unfolding is_end standing
-returns c = rw (c.before.is-none.ensures, c.is-none2.ensures)
+returns c = rw (c.is_none.ensures, c.is_none-2.ensures)
 
-pub is-end-spec : {M : Type 1} → statement M
-is-end-spec = tie.close (tie.spec (λ c κs. search rules) (λ c κs. search rules) returns)
+pub is_end_spec : {M : Type 1} → statement M
+is_end_spec = tie.close (tie.spec (λ c κs. search rules) (λ c κs. search rules) returns)

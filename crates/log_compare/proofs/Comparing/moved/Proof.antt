@@ -7,7 +7,7 @@ use Rattle.log_compare.proofs.Comparing.moved.Tie as tie
 
 returns : tie.Need-returns
 unfolding stepped standing took
-returns c = rw (c.before.taken.ensures, c.taken2.ensures)
+returns c = rw (c.taken-first.ensures, c.taken-second.ensures)
 
-pub moved-spec : {M : Type 1} → statement M
-moved-spec = tie.close (tie.spec (λ c κs. search rules) (λ c κs. search rules) returns)
+pub moved_spec : {M : Type 1} → statement M
+moved_spec = tie.close (tie.spec (λ c κs. search rules) (λ c κs. search rules) returns)

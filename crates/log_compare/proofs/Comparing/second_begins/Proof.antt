@@ -10,13 +10,13 @@ returns : tie.Need-returns
 unfolding standing
 returns c =
     let s = c.before.before.before.before.before.before.before.before in
-    let p = taken c.before.part2.ensures refl (omega arith) in
-    let q = taken c.before.before.part.ensures c.before.before.before.missing.ensures s.requires in
+    let p = taken c.part.ensures refl (omega arith) in
+    let q = taken c.part-y.ensures c.missing.ensures s.requires in
     c.moved.ensures
-    ∙ second_law (standing s.args.self) s.args.a.now s.args.b.now p q c.before.before.before.before.wrapping-add-u64.ensures c.before.before.before.before.before.head_at.ensures
+    ∙ second_law (standing s.args.self) s.args.a.now s.args.b.now p q c.wrapping_add_u64-number.ensures c.head_at-two.ensures
 
-pub second-begins-spec : {M : Type 1} → statement M
-second-begins-spec =
+pub second_begins_spec : {M : Type 1} → statement M
+second_begins_spec =
     tie.close
     (tie.spec
     (λ c κs. search rules)

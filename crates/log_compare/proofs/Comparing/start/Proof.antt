@@ -5,7 +5,7 @@ use Rattle.log_compare.proofs.Comparing.start.Statement.{statement}
 use Rattle.log_compare.proofs.Comparing.start.Tie as tie
 
 returns : tie.Need-returns
-returns c = rw (c.before.none.ensures, c.none2.ensures)
+returns c = rw (c.none-first.ensures, c.none-second.ensures)
 
 pub start_spec : {M : Type 1} → statement M
 start_spec = tie.close (tie.spec (λ c κs. search rules) (λ c κs. search rules) returns)

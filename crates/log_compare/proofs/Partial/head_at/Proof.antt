@@ -8,7 +8,7 @@ use Rattle.log_compare.proofs.Partial.head_at.Statement.{statement}
 use Rattle.log_compare.proofs.Partial.head_at.Tie as tie
 
 six : (s : tie.Start) → length s.args.self.head ≡ 6
-six s = sym (length-map s.args.self.head _) ∙ s.well-formed.0.1.1.0.1.0.1
+six s = s.well_formed.0.1.1.0.1.0.1
 
 returns : tie.Need-returns
 unfolding head_of
@@ -17,9 +17,9 @@ returns c =
     let a = s.args in
     let l : 6 - a.self.held % 6 ≤ length a.bytes.now = omega (arith, s.requires, count a.self (six s)) in
     let byte = array-byte a.self (six s) a.bytes.now l in
-    rw (c.claimed.ensures.0, c.before.before.joined.ensures, array_claims a.self (six s) a.bytes.now l, byte 4 (omega arith), byte 5 (omega arith))
+    rw (c.claimed.ensures.0, c.joined-head.ensures, array_claims a.self (six s) a.bytes.now l, byte 4 (omega arith), byte 5 (omega arith))
 
-pub head-at-spec : {M : Type 1} → statement M
-head-at-spec =
+pub head_at_spec : {M : Type 1} → statement M
+head_at_spec =
     tie.close
     (tie.spec (λ c κs. search rules) (λ c. search rules) (λ c κs. search rules) (λ c. search rules) (λ c. search rules) returns)

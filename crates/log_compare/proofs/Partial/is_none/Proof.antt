@@ -7,10 +7,10 @@ use Rattle.log_compare.proofs.Partial.is_none.Statement.{statement}
 use Rattle.log_compare.proofs.Partial.is_none.Tie as tie
 
 six : (s : tie.Start) → length s.args.self.head ≡ 6
-six s = sym (length-map s.args.self.head _) ∙ s.well-formed.0.1.1.0.1.0.1
+six s = s.well_formed.0.1.1.0.1.0.1
 
 returns : tie.Need-returns
-returns c = sym (none-held c.before.before.args.self (six c.before.before))
+returns c = sym (none-held c.args.self (six c.before.before))
 
-pub is-none-spec : {M : Type 1} → statement M
-is-none-spec = tie.close (tie.spec returns)
+pub is_none_spec : {M : Type 1} → statement M
+is_none_spec = tie.close (tie.spec returns)

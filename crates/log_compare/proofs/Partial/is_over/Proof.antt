@@ -7,10 +7,10 @@ use Rattle.log_compare.proofs.Partial.is_over.Statement.{statement}
 use Rattle.log_compare.proofs.Partial.is_over.Tie as tie
 
 six : (s : tie.Start) → length s.args.self.head ≡ 6
-six s = sym (length-map s.args.self.head _) ∙ s.well-formed.0.1.1.0.1.0.1
+six s = s.well_formed.0.1.1.0.1.0.1
 
 returns : tie.Need-returns
-returns c = let a = c.before.args in sym (over-held a.self (six c.before) a.last a.piece.now)
+returns c = let a = c.args in sym (over-held a.self (six c.before) a.last a.piece.now)
 
-pub is-over-spec : {M : Type 1} → statement M
-is-over-spec = tie.close (tie.spec returns)
+pub is_over_spec : {M : Type 1} → statement M
+is_over_spec = tie.close (tie.spec returns)

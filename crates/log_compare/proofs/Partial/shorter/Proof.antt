@@ -4,9 +4,9 @@ use Rattle.std.proofs.Common.{◌≡◌, ◌-◌, arith, rules}
 use Rattle.log_compare.proofs.Partial.shorter.Statement.{statement}
 use Rattle.log_compare.proofs.Partial.shorter.Tie as tie
 
-returns-2 : tie.Need-returns-2
+returns-2 : tie.Need-returns-else-n-self
 returns-2 c =
-    let a = c.before.before.before.args in
+    let a = c.args in
     let z : a.self.left - a.n ≡ 0 = omega arith in
     rw z
 

@@ -7,27 +7,27 @@ use Rattle.log_compare.proofs.Partial.taken.Statement.{statement}
 use Rattle.log_compare.proofs.Partial.taken.Tie as tie
 
 six : (s : tie.Start) → length s.args.self.head ≡ 6
-six s = sym (length-map s.args.self.head _) ∙ s.well-formed.0.1.1.0.1.0.1
+six s = s.well_formed.0.1.1.0.1.0.1
 
-returns : tie.Need-returns
+returns : tie.Need-returns-then-self-gt0
 returns c =
     let s = c.before.before.before.before in
     rw c.shorter.ensures (body-taken s.args.self (six s) s.args.bytes.now (omega arith))
 
-returns-2 : tie.Need-returns-2
+returns-2 : tie.Need-returns-then-bytes-missing
 returns-2 c =
     let s = c.before.before.before.before.before.before.before in
-    rw c.before.before.before.joined.ensures
+    rw c.joined-head.ensures
     (head-taken s.args.self (six s) s.args.bytes.now (omega arith) (omega (arith, count s.args.self (six s))))
 
-returns-3 : tie.Need-returns-3
+returns-3 : tie.Need-returns
 returns-3 c =
     let s = c.before.before.before.before.before.before.before.before in
-    rw (c.claimed.ensures.0, c.before.before.before.before.joined.ensures)
+    rw (c.claimed.ensures.0, c.joined-head.ensures)
     (whole-taken s.args.self (six s) s.args.bytes.now (omega (arith, count s.args.self (six s))) (omega arith))
 
-pub taken-spec : {M : Type 1} → statement M
-taken-spec =
+pub taken_spec : {M : Type 1} → statement M
+taken_spec =
     tie.close
     (tie.spec
     (λ c κs. search rules)

@@ -5,8 +5,8 @@ use Rattle.log_compare.proofs.Held.{few}
 use Rattle.log_compare.proofs.Partial.waiting.Statement.{statement}
 use Rattle.log_compare.proofs.Partial.waiting.Tie as tie
 
-sub-at-most : tie.Need-overflow-sub-at-most
-sub-at-most c = omega (arith, few c.before.before.args.self, c.missing.ensures)
+sub-at-most : tie.Need-overflow_sub-missing
+sub-at-most c = omega (arith, few c.args.self, c.missing.ensures)
 
-pub waiting-spec : {M : Type 1} → statement M
-waiting-spec = tie.close (tie.spec (λ c κs. search rules) sub-at-most (λ c κs. search rules) (λ c. search rules))
+pub waiting_spec : {M : Type 1} → statement M
+waiting_spec = tie.close (tie.spec (λ c κs. search rules) sub-at-most (λ c κs. search rules) (λ c. search rules))

@@ -7,7 +7,7 @@ use Rattle.log_compare.proofs.Place.moved_to.Tie as tie
 
 returns : tie.Need-returns
 unfolding moved_to
-returns c = rw c.wrapping-add-u64.ensures
+returns c = rw c.wrapping_add_u64.ensures
 
-pub moved-to-spec : {M : Type 1} → statement M
-moved-to-spec = tie.close (tie.spec (λ c κs. search rules) returns)
+pub moved_to_spec : {M : Type 1} → statement M
+moved_to_spec = tie.close (tie.spec (λ c κs. search rules) returns)

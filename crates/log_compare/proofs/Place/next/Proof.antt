@@ -33,98 +33,98 @@ module _ {a b : List ℕ} {at : Place} {one two : ℕ} (e : Ends a b at one two)
   none-second : ltb at.first one && ltb at.second two ≡ false → at.first < one → two ≤ at.second
   none-second t l = ltb-false at.second two (other _ _ t (lt-ltb at.first one l))
 
-abbrev invariant-loop : tie.invariant-loop
+abbrev invariant-loop : tie.invariant-loop-at
 invariant-loop a b at₀ one₀ two₀ at one two = Ends a b at one two × (next_of at₀ a b ≡ next_of at a b)
 
-abbrev decreases-loop : tie.decreases-loop
+abbrev decreases-loop : tie.decreases-loop-at
 decreases-loop a b at₀ one₀ two₀ at one two = length a - at.first
 
-loop-holds : tie.Need-loop-init invariant-loop decreases-loop
-loop-holds c = (record { first = c.before.end_of_lem.ensures; second = c.end-of2.ensures }, refl)
+loop-holds : tie.Need-loop-at-init invariant-loop decreases-loop
+loop-holds c = (record { first = c.end_of-one.ensures; second = c.end_of-two.ensures }, refl)
 
-add-part : tie.Need-overflow-add-part invariant-loop decreases-loop
-add-part c = let f = found_first c.before.before.before.before.loop.invariant.0 c.before.if1.true in omega (arith, f.within, some_bytes _ _ f)
+add-part : tie.Need-overflow_add-at invariant-loop decreases-loop
+add-part c = let f = found_first c.loop-at.invariant.0 c.loop-at-test.true in omega (arith, f.within, some_bytes _ _ f)
 
-add-part-2 : tie.Need-overflow-add-part-2 invariant-loop decreases-loop
-add-part-2 c = let g = found-second c.before.before.before.before.before.before.loop.invariant.0 c.before.before.before.if1.true in omega (arith, g.within, some_bytes _ _ g)
+add-part-2 : tie.Need-overflow_add-at-in-loop-at invariant-loop decreases-loop
+add-part-2 c = let g = found-second c.loop-at.invariant.0 c.loop-at-test.true in omega (arith, g.within, some_bytes _ _ g)
 
-sub-t17 : tie.Need-overflow-sub-t17 invariant-loop decreases-loop
-sub-t17 c = rw c.before.before.before.before.part.ensures (content-some _ _ (found_first c.before.before.before.before.before.before.before.before.before.loop.invariant.0 c.before.before.before.before.before.before.if1.true))
+sub-t17 : tie.Need-overflow_sub-entry invariant-loop decreases-loop
+sub-t17 c = rw c.part-a.ensures (content-some _ _ (found_first c.loop-at.invariant.0 c.loop-at-test.true))
 
-sub-t20 : tie.Need-overflow-sub-t20 invariant-loop decreases-loop
-sub-t20 c = rw c.before.before.part2.ensures (content-some _ _ (found-second c.before.before.before.before.before.before.before.before.before.loop.invariant.0 c.before.before.before.before.before.before.if1.true))
+sub-t20 : tie.Need-overflow_sub-entry-then-not-same_key invariant-loop decreases-loop
+sub-t20 c = rw c.part-b.ensures (content-some _ _ (found-second c.loop-at.invariant.0 c.loop-at-test.true))
 
-returns : tie.Need-returns invariant-loop decreases-loop
+returns : tie.Need-returns-then-not-same_key invariant-loop decreases-loop
 returns c =
-    let l = c.before.before.before.before.before.before.before.before.before.before.before.loop in
-    let s = c.before.before.before.before.before.before.before.before.before.before.before.before.before.before.before.before.args in
-    let f = found_first c.before.before.before.before.before.before.before.before.before.before.before.loop.invariant.0 c.before.before.before.before.before.before.before.before.if1.true in
-    let g = found-second c.before.before.before.before.before.before.before.before.before.before.before.loop.invariant.0 c.before.before.before.before.before.before.before.before.if1.true in
-    let different = sym c.before.before.before.same_key.ensures ∙ not-true _ c.before.before.if2.true in
-    c.behind.ensures ∙ rw c.before.moved_to.ensures
-    (sym (l.invariant.1 ∙ says_both l.at s.first.now s.second.now f g c.before.before.before.before.before.before.part.ensures c.before.before.before.before.part2.ensures different))
+    let l = c.loop-at in
+    let s = c.args in
+    let f = found_first c.loop-at.invariant.0 c.loop-at-test.true in
+    let g = found-second c.loop-at.invariant.0 c.loop-at-test.true in
+    let different = sym c.same_key.ensures ∙ not-true _ c.if-not-same_key.true-raw in
+    c.behind.ensures ∙ rw c.moved_to.ensures
+    (sym (l.invariant.1 ∙ says_both l.at s.first.now s.second.now f g c.part-a.ensures c.part-b.ensures different))
 
-loop-less : tie.Need-loop-smaller invariant-loop decreases-loop
+loop-less : tie.Need-loop-at-smaller invariant-loop decreases-loop
 unfolding moved_to
 loop-less c =
-    let f = found_first c.before.before.before.before.before.before.before.before.before.before.before.before.loop.invariant.0 c.before.before.before.before.before.before.before.before.before.if1.true in
-    rw c.before.before.moved-to2.ensures (omega (arith, f.within, some_bytes _ _ f))
+    let f = found_first c.loop-at.invariant.0 c.loop-at-test.true in
+    rw c.moved_to-at.ensures (omega (arith, f.within, some_bytes _ _ f))
 
-loop-again : tie.Need-loop-preserved invariant-loop decreases-loop
+loop-again : tie.Need-loop-at-preserved invariant-loop decreases-loop
 loop-again c =
-    let l = c.before.before.before.before.before.before.before.before.before.before.before.before.loop in
-    let s = c.before.before.before.before.before.before.before.before.before.before.before.before.before.before.before.before.before.args in
-    let f = found_first c.before.before.before.before.before.before.before.before.before.before.before.before.loop.invariant.0 c.before.before.before.before.before.before.before.before.before.if1.true in
-    let g = found-second c.before.before.before.before.before.before.before.before.before.before.before.before.loop.invariant.0 c.before.before.before.before.before.before.before.before.before.if1.true in
-    let alike = sym c.before.before.before.before.same_key.ensures ∙ not-false _ c.before.before.before.if2.false in (
-      record { first = c.before.end-of3.ensures; second = c.end-of4.ensures },
-      l.invariant.1 ∙ goes_on l.at s.first.now s.second.now f g c.before.before.before.before.before.before.before.part.ensures c.before.before.before.before.before.part2.ensures alike
-          ∙ ap (λ (p : Place). next_of p s.first.now s.second.now) (sym c.before.before.moved-to2.ensures),
+    let l = c.loop-at in
+    let s = c.args in
+    let f = found_first c.loop-at.invariant.0 c.loop-at-test.true in
+    let g = found-second c.loop-at.invariant.0 c.loop-at-test.true in
+    let alike = sym c.same_key.ensures ∙ not-false _ c.if-not-same_key.false-raw in (
+      record { first = c.end_of-one-in-loop-at.ensures; second = c.end_of-two-in-loop-at.ensures },
+      l.invariant.1 ∙ goes_on l.at s.first.now s.second.now f g c.part-a.ensures c.part-b.ensures alike
+          ∙ ap (λ (p : Place). next_of p s.first.now s.second.now) (sym c.moved_to-at.ensures),
     )
 
-sub-t24 : tie.Need-overflow-sub-t24 invariant-loop decreases-loop
-sub-t24 c = let f = found 4 _ _ c.before.before.before.before.before.before.loop.invariant.0.first c.before.if3.true in omega (arith, some_bytes _ _ f)
+sub-t24 : tie.Need-overflow_sub-entry-then-at-one invariant-loop decreases-loop
+sub-t24 c = let f = found 4 _ _ c.loop-at.invariant.0.first c.if-at-one.true in omega (arith, some_bytes _ _ f)
 
-sub-t25 : tie.Need-overflow-sub-t25 invariant-loop decreases-loop
-sub-t25 c = let f = found 4 _ _ c.before.before.before.before.before.before.loop.invariant.0.first c.before.if3.true in omega (arith, some_bytes _ _ f)
+sub-t25 : tie.Need-overflow_sub-entry-then-at-one-2 invariant-loop decreases-loop
+sub-t25 c = let f = found 4 _ _ c.loop-at.invariant.0.first c.if-at-one.true in omega (arith, some_bytes _ _ f)
 
-sub-t28 : tie.Need-overflow-sub-t28 invariant-loop decreases-loop
-sub-t28 c = let g = found 4 _ _ c.before.before.before.before.before.before.before.before.loop.invariant.0.second c.before.if4.true in omega (arith, some_bytes _ _ g)
+sub-t28 : tie.Need-overflow_sub-entry-then-at-two invariant-loop decreases-loop
+sub-t28 c = let g = found 4 _ _ c.loop-at.invariant.0.second c.if-at-two.true in omega (arith, some_bytes _ _ g)
 
-sub-t29 : tie.Need-overflow-sub-t29 invariant-loop decreases-loop
-sub-t29 c = let g = found 4 _ _ c.before.before.before.before.before.before.before.before.loop.invariant.0.second c.before.if4.true in omega (arith, some_bytes _ _ g)
+sub-t29 : tie.Need-overflow_sub-entry-then-at-two-2 invariant-loop decreases-loop
+sub-t29 c = let g = found 4 _ _ c.loop-at.invariant.0.second c.if-at-two.true in omega (arith, some_bytes _ _ g)
 
-returns-2 : tie.Need-returns-2 invariant-loop decreases-loop
+returns-2 : tie.Need-returns-then-at-one invariant-loop decreases-loop
 returns-2 c =
-    let l = c.before.before.before.before.before.before.before.before.loop in
-    let s = c.before.before.before.before.before.before.before.before.before.before.before.before.before.args in
+    let l = c.loop-at in
+    let s = c.args in
     let e = l.invariant.0 in
-    let f = found 4 _ _ c.before.before.before.before.before.before.before.before.loop.invariant.0.first c.before.before.before.if3.true in
-    let k = none-second e c.before.before.before.before.before.if1.false c.before.before.before.if3.true in
-    c.behind2.ensures ∙ rw (c.before.moved-to3.ensures, ends-here s.second.now l.at.second e.second k)
+    let f = found 4 _ _ c.loop-at.invariant.0.first c.if-at-one.true in
+    let k = none-second e c.loop-at-test.false c.if-at-one.true in
+    c.behind-then-at-one.ensures ∙ rw (c.moved_to-then-at-one.ensures, ends-here s.second.now l.at.second e.second k)
     (sym (l.invariant.1 ∙ first-there l.at s.first.now s.second.now f (missing 4 s.second.now l.at.second e.second k)))
 
-returns-3 : tie.Need-returns-3 invariant-loop decreases-loop
+returns-3 : tie.Need-returns-then-at-two invariant-loop decreases-loop
 returns-3 c =
-    let l = c.before.before.before.before.before.before.before.before.before.before.loop in
-    let s = c.before.before.before.before.before.before.before.before.before.before.before.before.before.before.before.args in
+    let l = c.loop-at in
+    let s = c.args in
     let e = l.invariant.0 in
-    let g = found 4 _ _ c.before.before.before.before.before.before.before.before.before.before.loop.invariant.0.second c.before.before.before.if4.true in
-    let k = c.before.before.before.before.before.if3.false in
-    c.behind3.ensures ∙ rw (c.before.moved-to4.ensures, ends-here s.first.now l.at.first e.first k)
+    let g = found 4 _ _ c.loop-at.invariant.0.second c.if-at-two.true in
+    let k = c.if-at-one.false in
+    c.behind-then-at-two.ensures ∙ rw (c.moved_to-then-at-two.ensures, ends-here s.first.now l.at.first e.first k)
     (sym (l.invariant.1 ∙ second-there l.at s.first.now s.second.now (missing 4 s.first.now l.at.first e.first k) g))
 
-returns-4 : tie.Need-returns-4 invariant-loop decreases-loop
+returns-4 : tie.Need-returns invariant-loop decreases-loop
 returns-4 c =
-    let l = c.before.before.before.before.before.before.before.loop in
-    let s = c.before.before.before.before.before.before.before.before.before.before.before.before.args in
+    let l = c.loop-at in
+    let s = c.args in
     let e = l.invariant.0 in
-    let m = missing 4 s.first.now l.at.first e.first c.before.before.if3.false in
-    let n = missing 4 s.second.now l.at.second e.second c.if4.false in
+    let m = missing 4 s.first.now l.at.first e.first c.if-at-one.false in
+    let n = missing 4 s.second.now l.at.second e.second c.if-at-two.false in
     sym (l.invariant.1 ∙ none-there l.at s.first.now s.second.now m n)
 
-pub next-spec : {M : Type 1} → statement M
-next-spec =
+pub next_spec : {M : Type 1} → statement M
+next_spec =
     tie.close
     (tie.spec
     invariant-loop

@@ -10,10 +10,10 @@ use Rattle.log_compare.proofs.Scans.{any-cut, at_once}
 use Rattle.log_compare.proofs.Scanning.scan.Statement.{statement}
 use Rattle.log_compare.proofs.Scanning.scan.Tie as tie
 
-abbrev invariant-loop : tie.invariant-loop
+abbrev invariant-loop : tie.invariant-loop-at
 invariant-loop piece s₀ at₀ s at = (at ≤ length piece) × (scan_view s ≡ scan_of (scan_view s₀) (take at piece))
 
-abbrev decreases-loop : tie.decreases-loop
+abbrev decreases-loop : tie.decreases-loop-at
 decreases-loop piece s₀ at₀ s at = length piece - at
 
 -- one turn
@@ -29,7 +29,7 @@ module _ (s₀ s : Scanned) (piece : List ℕ) (at n : ℕ) (i : s ≡ scan_of s
       ∙ sym (any-cut s₀ (take at piece) bytes)
       ∙ ap (scan_of s₀) (sym (take-add at n piece))
 
-loop-holds : tie.Need-loop-init invariant-loop decreases-loop
+loop-holds : tie.Need-loop-at-init invariant-loop decreases-loop
 unfolding scan_of
 loop-holds c = (omega arith, refl)
 
@@ -39,35 +39,35 @@ record Fit (s : Scanning) (piece : List ℕ) (at n : ℕ) : Type 0 where
   within : at + n ≤ length piece
   reach : n ≤ reach_of (scan_view s).under
 
-fit : (c : tie.After-at-most invariant-loop decreases-loop)
-    → Fit c.before.before.before.before.loop.s c.before.before.before.before.before.before.args.piece.now
-    c.before.before.before.before.loop.at c.at_most.result
+fit : (c : tie.After-at_most-n invariant-loop decreases-loop)
+    → Fit c.loop-at.s c.args.piece.now
+    c.loop-at.at c.at_most-n.result
 unfolding scan_view
 fit c =
     let b = c.before.before.before.before in
-    let piece : List ℕ = b.before.before.args.piece.now in
-    let rest : List ℕ = take (length piece - b.loop.at) (drop b.loop.at piece) in
-    let e : c.at_most.result ≡ min (reach_of (under_way b.loop.s.under)) (length rest) = c.at_most.ensures ∙ rw c.before.before.reach.ensures in
-    let d : length rest ≡ length piece - b.loop.at =
-    length-take-le (length piece - b.loop.at) (drop b.loop.at piece) (omega (arith, length-drop b.loop.at piece)) in
-    record { some = omega (arith, e, d, some_reach b.loop.s.under); within = omega (arith, e, d); reach = omega (arith, e) }
+    let piece : List ℕ = b.args.piece.now in
+    let rest : List ℕ = take (length piece - b.loop-at.at) (drop b.loop-at.at piece) in
+    let e : c.at_most-n.result ≡ min (reach_of (under_way b.loop-at.s.under)) (length rest) = c.at_most-n.ensures ∙ rw c.reach.ensures in
+    let d : length rest ≡ length piece - b.loop-at.at =
+    length-take-le (length piece - b.loop-at.at) (drop b.loop-at.at piece) (omega (arith, length-drop b.loop-at.at piece)) in
+    record { some = omega (arith, e, d, some_reach b.loop-at.s.under); within = omega (arith, e, d); reach = omega (arith, e) }
 
-loop-again : tie.Need-loop-preserved invariant-loop decreases-loop
+loop-again : tie.Need-loop-at-preserved invariant-loop decreases-loop
 loop-again c =
     let b = c.before.before.before.before.before.before in
-    let a = b.before.before.args in
+    let a = b.args in
     let f = fit c.before.before in
-    let t = turn (scan_view a.self) (scan_view b.loop.s) a.piece.now b.loop.at c.before.before.at_most.result b.loop.invariant.1 in
-    (f.within, c.settled.ensures ∙ ap (settled (scan_view b.loop.s)) c.before.part.ensures ∙ t f.some f.within f.reach)
+    let t = turn (scan_view a.self) (scan_view b.loop-at.s) a.piece.now b.loop-at.at c.at_most-n.result b.loop-at.invariant.1 in
+    (f.within, c.settled-s.ensures ∙ ap (settled (scan_view b.loop-at.s)) c.part.ensures ∙ t f.some f.within f.reach)
 
 returns : tie.Need-returns invariant-loop decreases-loop
 returns c =
-    let a = c.before.before.before.args in
-    let l = c.before.loop in
+    let a = c.args in
+    let l = c.loop-at in
     l.invariant.1 ∙ ap (scan_of (scan_view a.self)) (take_all l.at a.piece.now (omega arith))
 
-pub scan-spec : {M : Type 1} → statement M
-scan-spec =
+pub scan_spec : {M : Type 1} → statement M
+scan_spec =
     tie.close
     (tie.spec
     invariant-loop

@@ -16,24 +16,24 @@ record Small (s : List ℕ) : Type 0 where
   c : get_or s 2 0 < 256
   d : get_or s 3 0 < 256
 
-small : (c : tie.After-shared-slice-known4) → Small c.before.before.before.before.args.head.now
+small : (c : tie.After-shared_slice_known-4-1) → Small c.args.head.now
 small c =
-    let k = c.shared-slice-known4 in
+    let k = c.shared_slice_known-4-1 in
     record { a = omega (arith, k.given 0); b = omega (arith, k.given 1); c = omega (arith, k.given 2); d = omega (arith, k.given 3) }
 
 returns : tie.Need-returns
-returns c = let s = small c in (read c.before.before.before.before.args.head.now, omega arith)
+returns c = let s = small c in (read c.args.head.now, omega arith)
 
-pub claimed-spec : {M : Type 1} → statement M
-claimed-spec =
+pub claimed_spec : {M : Type 1} → statement M
+claimed_spec =
     tie.close
     (tie.spec
     (λ c. search rules)
-    (λ c. omega (arith, c.shared-slice-known.given 0))
+    (λ c. omega (arith, c.shared_slice_known-1.given 0))
     (λ c. search rules)
-    (λ c. omega (arith, c.shared-slice-known2.given 1))
+    (λ c. omega (arith, c.shared_slice_known-2-1.given 1))
     (λ c. search rules)
-    (λ c. omega (arith, c.shared-slice-known3.given 2))
+    (λ c. omega (arith, c.shared_slice_known-3-1.given 2))
     (λ c. search rules)
     (λ c. let s = small c in omega arith)
     (λ c. let s = small c in omega arith)
