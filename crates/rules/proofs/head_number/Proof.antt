@@ -31,35 +31,35 @@ returns c =
     let starts = new.before.before in
     let collects = starts.before.before.before.before in
     let free = collects.before in
-    let a = free.before.args in
-    c.try-rule12.ensures
+    let a = free.args in
+    c.try_rule.ensures
     ∙ rw (
-      r22.try-rule11.ensures,
-      r21.try-rule10.ensures,
-      r20.try-rule9.ensures,
-      r19.try-rule8.ensures,
-      r18.try-rule7.ensures,
-      r17.try-rule6.ensures,
-      r16.try-rule5.ensures,
-      r15.try-rule4.ensures,
-      r14.try-rule3.ensures,
-      r13.try-rule2.ensures,
-      r12.try-rule.ensures,
+      r22.try_rule-n-11.ensures,
+      r21.try_rule-n-10.ensures,
+      r20.try_rule-n-9.ensures,
+      r19.try_rule-n-8.ensures,
+      r18.try_rule-n-7.ensures,
+      r17.try_rule-n-6.ensures,
+      r16.try_rule-n-5.ensures,
+      r15.try_rule-n-4.ensures,
+      r14.try_rule-n-3.ensures,
+      r13.try_rule-n-2.ensures,
+      r12.try_rule-n.ensures,
     )
     (rw (
-      c.before.is-long.ensures,
-      follows.data-follows.ensures,
-      fit.flags-fit.ensures,
-      r12.before.before.is-new2.ensures,
-      new.is-new.ensures,
-      starts.begins.ensures,
-      collects.is-phase2.ensures,
-      free.is-phase.ensures,
+      c.is_long.ensures,
+      follows.data_follows.ensures,
+      fit.flags_fit.ensures,
+      r12.is_new-2.ensures,
+      new.is_new.ensures,
+      starts.begins-begins.ensures,
+      collects.is_phase-collects.ensures,
+      free.is_phase-free.ensures,
     )
     (in_turn_lem (framed a.h []) (viewed a.m a.h []) head_rules 12 23 (omega arith) refl))
 
-pub head-number-spec : {M : Type 1} → statement M
-head-number-spec =
+pub head_number_spec : {M : Type 1} → statement M
+head_number_spec =
     tie.close
     (tie.spec
     (λ c κs. search rules)

@@ -17,13 +17,13 @@ returns c =
     let r28 = c.before.before in
     let r27 = r28.before.before.before in
     let takes = r27.before in
-    let a = takes.before.before.before.args in
-    c.try-rule3.ensures
-    ∙ rw (r28.try-rule2.ensures, r27.try-rule.ensures, c.before.is-unread.ensures, r28.before.begins.ensures, takes.takes-data.ensures)
+    let a = takes.args in
+    c.try_rule.ensures
+    ∙ rw (r28.try_rule-n-2.ensures, r27.try_rule-n.ensures, c.is_unread.ensures, r28.begins.ensures, takes.takes_data.ensures)
     (in_turn_lem (framed a.h a.payload.now) (viewed a.m a.h []) last_rules 27 29 (omega arith) refl)
 
-pub last-number-spec : {M : Type 1} → statement M
-last-number-spec =
+pub last_number_spec : {M : Type 1} → statement M
+last_number_spec =
     tie.close
     (tie.spec
     (λ c κs. search rules)

@@ -19,12 +19,12 @@ use Rattle.rules.proofs.look_up.Statement.{statement}
 use Rattle.rules.proofs.look_up.Tie as tie
 
 -- after the two searches and the choice between them
-module _ (j : tie.Joined1) where
-  chosen : j.if1.target ≡ cond (is_new (framed j.before.before.before.before.args.h [])) j.before.before.find2.result j.before.before.before.find.result
+module _ (j : tie.Joined-is_new) where
+  chosen : j.if-is_new.target ≡ cond (is_new (framed j.args.h [])) j.find-lowest.result j.find-place.result
   chosen =
-      ⊎_elim (λ h. h.1 ∙ rw (sym j.before.is-new.ensures ∙ h.0.taken))
-      (λ h. h.1 ∙ rw (sym j.before.is-new.ensures ∙ h.0.left))
-      j.if1.branch
+      ⊎_elim (λ h. h.1 ∙ rw (sym j.is_new.ensures ∙ h.0.taken))
+      (λ h. h.1 ∙ rw (sym j.is_new.ensures ∙ h.0.left))
+      j.if-is_new.branch-raw
 
 -- what is found makes the answer
 met-is : (slots : List Slot) (open' : Bool) (h : Header) (p l t : ℕ) (x y : Slot) → p ≡ first_slot (is_id h.request) slots → l ≡ first_slot (in_phase Free) slots
@@ -37,10 +37,10 @@ returns c =
     let j = c.before.before in
     let b = j.before.before.before.before in
     let eight : length b.args.slots ≡ 8 = search rules in
-    met-is b.args.slots b.args.is-open b.args.h _ _ _ _ _ j.before.before.before.find.ensures j.before.before.find2.ensures (chosen j) c.before.slot_at.ensures c.slot-at2.ensures eight
+    met-is b.args.slots b.args.is_open b.args.h _ _ _ _ _ j.find-place.ensures j.find-lowest.ensures (chosen j) c.slot_at-x.ensures c.slot_at-y.ensures eight
 
-pub look-up-spec : {M : Type 1} → statement M
-look-up-spec =
+pub look_up_spec : {M : Type 1} → statement M
+look_up_spec =
     tie.close
     (tie.spec
     (λ c κs. search rules)
