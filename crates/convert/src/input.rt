@@ -1,11 +1,11 @@
 // One log: it is read in pieces. Held are a record that is not all there yet and the piece behind it. The whole records of what is held are
 // converted and written, and the rest stays held.
-ghost use Rattle.std.specs.Prelude.{◌≡◌, ◌≤◌, true, false, length, take};
+ghost use Rattle.std.specs.Prelude.{◌≡◌, ◌+◌, ◌≤◌, true, false, length, take, IfOk};
 ghost use Rattle.keys.specs.Keys.{part};
 ghost use Rattle.convert.specs.Turns.{longest_old, room_length, Rewritten, Turned};
 
 use crate::say;
-use libc::{STDERR_FILENO, STDOUT_FILENO};
+use std::io::{Print, Read};
 
 // The longest record with a two-byte length has 65,539 bytes. So behind one that is not all there the room always has places for the next
 // piece.
@@ -20,7 +20,7 @@ type Output = [u8; OUTPUT];
 
 // How many bytes are held, at the front of the room; how many of the log's bytes came before them, all in whole records; and whether
 // reading goes on: the log lasts, and the output is taken.
-#[derive(Drop)]
+#[derive(Clone, Copy)]
 struct Run {
     held: usize,
     place: u64,
@@ -28,7 +28,7 @@ struct Run {
 }
 
 // How many bytes the whole records in front take, and how many they take in the new form.
-#[derive(Drop)]
+#[derive(Clone, Copy)]
 struct Front {
     taken: usize,
     written: usize,
@@ -36,7 +36,12 @@ struct Front {
 
 // Reads a log to its end and writes the new one. A proved loop has to end, and nothing says that the log does. So the loop counts its turns
 // down, from a number that no run uses up.
-pub(crate) fn convert_input(file: i32, name: &[u8]) {
+pub(crate) fn convert_input(
+    input: &mut impl Read,
+    name: &[u8],
+    output: &impl Print,
+    errors: &impl Print,
+) {
     let mut room = [0u8; ROOM];
     let mut out = [0u8; OUTPUT];
     let mut run = Run {
@@ -49,43 +54,50 @@ pub(crate) fn convert_input(file: i32, name: &[u8]) {
         if !run.is_going {
             return;
         }
-        run = read_some(run, file, name, &mut room, &mut out);
+        run = read_some(run, input, name, output, errors, &mut room, &mut out);
         turns -= 1;
     }
 }
 
 // Reads once, behind the bytes held, and converts what is whole.
-fn read_some(run: Run, file: i32, name: &[u8], room: &mut Room, out: &mut Output) -> Run
+fn read_some(
+    run: Run,
+    input: &mut impl Read,
+    name: &[u8],
+    output: &impl Print,
+    errors: &impl Print,
+    room: &mut Room,
+    out: &mut Output,
+) -> Run
     requires { run.held ≤ longest_old }
     ensures { result.held ≤ longest_old }
 {
     let held = run.held;
-    let got = read_behind(file, room, held);
-    if got < 0 {
-        files::say_unread(STDERR_FILENO, name, os::errno());
-        return ended(run);
+    match read_behind(input, room, held) {
+        Ok(0) => at_end(run, errors),
+        Ok(n) => convert_held(run, held + n, output, errors, room, out),
+        Err(error) => {
+            files::say_unread(errors, name, error);
+            ended(run)
+        }
     }
-    let n = io::count(got, keys::part(&room[..], held, ROOM));
-    if n == 0 {
-        return at_end(run);
-    }
-    convert_held(run, held + n, room, out)
 }
 
 // One read into a room, from a place on.
-fn read_behind(file: i32, room: &mut [u8], at: usize) -> isize
+fn read_behind(input: &mut impl Read, room: &mut [u8], at: usize) -> Result<usize, i32>
     requires { at ≤ length room.old }
+    ensures { IfOk result (λ n. at + n ≤ length room.new) }
 {
-    libc::read(file, &mut room[at..])
+    files::read(input, &mut room[at..])
 }
 
 // The run at the end of the log, which may lie inside a record.
-fn at_end(run: Run) -> Run
+fn at_end(run: Run, errors: &impl Print) -> Run
     requires { run.held ≤ longest_old }
     ensures { result.held ≤ longest_old }
 {
     if run.held != 0 {
-        say::say_broken(run.place);
+        say::say_broken(errors, run.place);
     }
     ended(run)
 }
@@ -101,13 +113,20 @@ fn ended(run: Run) -> Run
 }
 
 // Converts the whole records of the bytes held, writes them, and moves the rest to the front.
-fn convert_held(run: Run, held: usize, room: &mut Room, out: &mut Output) -> Run
+fn convert_held(
+    run: Run,
+    held: usize,
+    output: &impl Print,
+    errors: &impl Print,
+    room: &mut Room,
+    out: &mut Output,
+) -> Run
     requires { run.held ≤ longest_old }
     ensures { (result.held ≤ longest_old) × (result.is_going ≡ true → Turned (part room.old 0 held) run.place result room.new) }
 {
     let front = convert_front(keys::part(&room[..], 0, held), out);
-    if !io::write_all(STDOUT_FILENO, keys::part(&out[..], 0, front.written)) {
-        say::say_unwritten();
+    if !files::write(output, keys::part(&out[..], 0, front.written)) {
+        say::say_unwritten(errors);
         return ended(run);
     }
     let taken = front.taken;

@@ -6,56 +6,58 @@
 mod input;
 mod say;
 
-use libc::{STDERR_FILENO, STDIN_FILENO};
+use files::Source;
 
-fn main() {
-    let count = os::arg_count();
+fn main(rt: HostRuntime) {
+    let count = files::arg_count(&rt);
     if count < 2 {
-        input::convert_input(STDIN_FILENO, b"");
+        convert_source(&rt, Source::Standard(rt.stdin()), b"");
         return;
     }
     if 2 < count {
-        say::say_many();
+        say::say_many(&rt.stderr());
         return;
     }
-    take_argument();
+    take_argument(&rt);
 }
 
 // Does what the argument asks. One that is empty, or longer than a path, is no name.
-fn take_argument() {
-    let mut word = io::buffer();
-    let n = os::arg(1, &mut word);
-    if n == 0 {
-        files::say_nameless(STDERR_FILENO, 1, os::errno());
-        return;
+fn take_argument(rt: &HostRuntime) {
+    let mut word = [0u8; files::WORD];
+    match files::arg(rt, 1, &mut word) {
+        Ok(n) => take_word(rt, keys::part(&word, 0, n)),
+        Err(error) => files::say_nameless(&rt.stderr(), 1, error),
     }
-    take_word(keys::part(&word, 0, n));
 }
 
 // An option, or a log's name.
-fn take_word(word: &[u8]) {
+fn take_word(rt: &HostRuntime, word: &[u8]) {
     if files::is_option(word) {
-        answer(word);
+        answer(rt, word);
         return;
     }
-    take_file(word);
+    take_file(rt, word);
 }
 
 // Writes what an option asks for.
-fn answer(option: &[u8]) {
+fn answer(rt: &HostRuntime, option: &[u8]) {
     if keys::same_key(option, b"--help") {
-        say::say_help();
+        say::say_help(&rt.stdout());
         return;
     }
-    files::say_unknown(STDERR_FILENO, option, b"convert");
+    files::say_unknown(&rt.stderr(), option, b"convert");
 }
 
 // Opens a log and converts it. The file stays open to the program's end, which follows.
-fn take_file(name: &[u8]) {
-    let file = files::opened(name);
-    if file < 0 {
-        files::say_unread(STDERR_FILENO, name, os::errno());
-        return;
+fn take_file(rt: &HostRuntime, name: &[u8]) {
+    match files::opened(rt, rt.stdin(), name) {
+        Ok(source) => convert_source(rt, source, name),
+        Err(error) => files::say_unread(&rt.stderr(), name, error),
     }
-    input::convert_input(file, name);
+}
+
+// Converts a log from standard input or from a file.
+fn convert_source(rt: &HostRuntime, source: Source, name: &[u8]) {
+    let mut input = source;
+    input::convert_input(&mut input, name, &rt.stdout(), &rt.stderr());
 }

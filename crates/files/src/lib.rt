@@ -10,11 +10,14 @@ ghost use Rattle.files.specs.Words.{is_option, line_of, behind_lines, row_of};
 use std::env::FillError;
 use std::fs::File;
 use std::io::{Print, Read, Stdin};
-use std::rt::Env;
+use std::os::fd::{AsRawFd, IntoRawFd};
+use std::rt::{Env, Files};
 use std::{io, str};
 
 // Places for an argument: the longest path of the system has one byte less.
 pub const WORD: usize = 4096;
+
+const STDIN: i32 = 0;
 
 const ENOENT: i32 = 2;
 
@@ -35,6 +38,17 @@ const EILSEQ: i32 = 84;
 pub enum Source {
     Standard(Stdin),
     Named(File),
+}
+
+impl Source {
+    // Closes a file. One that was given standard input's number, since that was closed, stays open, and is standard input from then on.
+    pub fn close(self) {
+        if let Source::Named(file) = self {
+            if file.as_raw_fd() == STDIN {
+                file.into_raw_fd();
+            }
+        }
+    }
 }
 
 impl Read for Source {
@@ -80,16 +94,20 @@ pub fn is_option(word: &[u8]) -> bool
 }
 
 // Standard input, or a file that is opened for reading.
-pub fn opened(system: &HostRuntime, name: &[u8]) -> Result<Source, i32> {
+pub fn opened(
+    system: &impl Files<File = File>,
+    input: Stdin,
+    name: &[u8],
+) -> Result<Source, i32> {
     if keys::same_key(name, b"-") {
-        return Ok(Source::Standard(system.stdin()));
+        return Ok(Source::Standard(input));
     }
     let file = opened_file(system, name)?;
     Ok(Source::Named(file))
 }
 
 // A file that is opened for reading. The system's library takes no name that is not UTF-8.
-pub fn opened_file(system: &HostRuntime, name: &[u8]) -> Result<File, i32> {
+pub fn opened_file(system: &impl Files<File = File>, name: &[u8]) -> Result<File, i32> {
     let Ok(path) = str::from_utf8(name) else {
         return Err(EILSEQ);
     };

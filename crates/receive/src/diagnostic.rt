@@ -8,7 +8,7 @@ use crate::line::Text;
 use crate::words;
 use cbor::{Item, Next};
 
-#[derive(Drop)]
+#[derive(Clone, Copy)]
 enum Kind {
     Array,
     Set,
@@ -16,14 +16,14 @@ enum Kind {
 }
 
 // An open container, and how many items are left: in a map two for each pair, the key and its value.
-#[derive(Drop)]
+#[derive(Clone, Copy)]
 struct Open {
     kind: Kind,
     left: u64,
 }
 
 // The position of the next item, the end of the text, and the open containers: the first `depth` of the row, the innermost last.
-#[derive(Drop)]
+#[derive(Clone, Copy)]
 struct Walk {
     at: usize,
     end: usize,

@@ -8,71 +8,67 @@ mod line;
 mod say;
 mod words;
 
+use files::Source;
 use input::Input;
-use libc::{STDIN_FILENO, STDOUT_FILENO};
 
-fn main() {
-    let count = os::arg_count();
+fn main(rt: HostRuntime) {
+    let count = files::arg_count(&rt);
     if count < 2 {
-        take_standard();
+        take_standard(&rt);
         return;
     }
     let mut i: usize = 1;
     while i < count {
-        take_argument(i, 2 < count);
+        take_argument(&rt, i, 2 < count);
         i += 1;
     }
 }
 
 // Standard input, which has no name.
-fn take_standard() {
-    input::take_input(
-        Input {
-            file: STDIN_FILENO,
-            is_titled: false,
-        },
-        b"",
-    );
+fn take_standard(rt: &HostRuntime) {
+    let mut input = Input {
+        source: Source::Standard(rt.stdin()),
+        is_titled: false,
+    };
+    input::take_input(&mut input, b"", rt);
 }
 
 // Does what an argument asks. One that is empty, or longer than a path, is no name.
-fn take_argument(i: usize, is_titled: bool) {
-    let mut word = io::buffer();
-    let n = os::arg(i, &mut word);
-    if n == 0 {
-        files::say_nameless(STDOUT_FILENO, i, os::errno());
-        return;
+fn take_argument(rt: &HostRuntime, i: usize, is_titled: bool) {
+    let mut word = [0u8; files::WORD];
+    match files::arg(rt, i, &mut word) {
+        Ok(n) => take_word(rt, keys::part(&word, 0, n), is_titled),
+        Err(error) => files::say_nameless(rt, i, error),
     }
-    take_word(keys::part(&word, 0, n), is_titled);
 }
 
 // An option, or a file's name.
-fn take_word(word: &[u8], is_titled: bool) {
+fn take_word(rt: &HostRuntime, word: &[u8], is_titled: bool) {
     if files::is_option(word) {
-        answer(word);
+        answer(rt, word);
         return;
     }
-    take_file(word, is_titled);
+    take_file(rt, word, is_titled);
 }
 
 // Writes what an option asks for.
-fn answer(option: &[u8]) {
+fn answer(rt: &HostRuntime, option: &[u8]) {
     if keys::same_key(option, b"--help") {
-        say::say_help();
+        say::say_help(rt);
         return;
     }
-    files::say_unknown(STDOUT_FILENO, option, b"receive");
+    files::say_unknown(rt, option, b"receive");
 }
 
 // Opens a file, takes what is in it and closes it. Standard input stays open, for an argument behind.
-fn take_file(name: &[u8], is_titled: bool) {
-    let file = files::opened(name);
-    if file < 0 {
-        files::say_unread(STDOUT_FILENO, name, os::errno());
-        return;
-    }
-    input::take_input(Input { file, is_titled }, name);
-    if file != STDIN_FILENO {
-        libc::close(file);
+fn take_file(rt: &HostRuntime, name: &[u8], is_titled: bool) {
+    match files::opened(rt, rt.stdin(), name) {
+        Ok(source) => {
+            let mut input = Input { source, is_titled };
+            input::take_input(&mut input, name, rt);
+            let source = input.source;
+            source.close();
+        }
+        Err(error) => files::say_unread(rt, name, error),
     }
 }

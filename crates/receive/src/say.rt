@@ -2,15 +2,15 @@
 // are few, go in parts.
 use crate::line::Text;
 use crate::{diagnostic, line, words};
-use libc::STDOUT_FILENO;
 use records::Head;
+use std::io::Print;
 
 // How many bytes of data are put into a text at a time: of a whole text less than half, since a byte may become two hex digits, and the
 // line's start and end stand there too.
 const PIECE: usize = 8000;
 
 // Writes the line of a record, where there is one, and answers whether the output took it.
-pub(crate) fn say_record(record: &[u8]) -> bool {
+pub(crate) fn say_record(record: &[u8], output: &impl Print) -> bool {
     if record.len() == 0 {
         return true;
     }
@@ -19,59 +19,67 @@ pub(crate) fn say_record(record: &[u8]) -> bool {
     let mut text = [0u8; line::ROOM];
     if head.kind == 1 {
         let n = line::put_command(head, content, &mut text);
-        return say_front(&text, n);
+        return say_front(&text, n, output);
     }
-    say_data(head, content, &mut text)
+    say_data(head, content, &mut text, output)
 }
 
 // Writes the line of a request's data, which may be longer than a text, and answers whether the output took it. Whether the data stands as
 // text or in hex is known of all of it before the first byte is written.
-fn say_data(head: Head, data: &[u8], text: &mut Text) -> bool {
+fn say_data(head: Head, data: &[u8], text: &mut Text, output: &impl Print) -> bool {
     let as_text = diagnostic::is_text(data);
     let mut n = line::put_data_start(head, data.len(), as_text, text);
     let mut i: usize = 0;
     while PIECE < data.len() - i {
         n = diagnostic::put_content(&data[i..i + PIECE], as_text, text, n);
-        if !say_front(text, n) {
+        if !say_front(text, n, output) {
             return false;
         }
         n = 0;
         i += PIECE;
     }
     n = line::put_data_end(&data[i..], as_text, text, n);
-    say_front(text, n)
+    say_front(text, n, output)
 }
 
 // Writes the first n bytes of a text, and answers whether the output took them.
-fn say_front(text: &Text, n: usize) -> bool {
-    io::write_all(STDOUT_FILENO, keys::part(text, 0, n))
+fn say_front(text: &Text, n: usize, output: &impl Print) -> bool {
+    files::write(output, keys::part(text, 0, n))
 }
 
 // Writes what was refused, by its number and the count of bytes taken, the last of which was judged.
-pub(crate) fn say_refusal(number: u8, place: u64) {
-    say_counted(b"refused ", number as u64);
-    say_counted(b" at byte ", std::num::wrapping_sub_u64(place, 1));
-    say(b": ");
-    words::say_refused(number);
+pub(crate) fn say_refusal(number: u8, place: u64, output: &impl Print) {
+    say_counted(b"refused ", number as u64, output);
+    say_counted(
+        b" at byte ",
+        std::num::wrapping_sub_u64(place, 1),
+        output,
+    );
+    say(b": ", output);
+    words::say_refused(number, output);
 }
 
 // Writes how much there is of a frame that the input ends in.
-pub(crate) fn say_end(pending: usize) {
+pub(crate) fn say_end(pending: usize, output: &impl Print) {
     if pending == 0 {
         return;
     }
-    say_counted(b"the input ends inside a frame, after ", pending as u64);
-    say(b" of its bytes\n");
+    say_counted(
+        b"the input ends inside a frame, after ",
+        pending as u64,
+        output,
+    );
+    say(b" of its bytes\n", output);
 }
 
 // Writes the name of an input, before its lines.
-pub(crate) fn say_title(name: &[u8]) {
-    say(name);
-    say(b":\n");
+pub(crate) fn say_title(name: &[u8], output: &impl Print) {
+    say(name, output);
+    say(b":\n", output);
 }
 
 // Writes what the program does.
-pub(crate) fn say_help() {
+pub(crate) fn say_help(output: &impl Print) {
     say(
         b"receive [FILE]..\n\
           \n\
@@ -82,16 +90,17 @@ pub(crate) fn say_help() {
           command 3 data 0 loose 0 name 'set' args {'magnet': 4, 'on': true}\n\
           data 1 last 0 4 bytes 'slow'\n\
           refused 24 at byte 71: whole command isn't one CBOR item of the subset\n",
+        output,
     );
 }
 
 // Writes words, and a number behind them.
-fn say_counted(words: &[u8], n: u64) {
-    say(words);
-    io::print_decimal(STDOUT_FILENO, n);
+fn say_counted(words: &[u8], n: u64, output: &impl Print) {
+    say(words, output);
+    files::write_decimal(output, n);
 }
 
 // Writes a text.
-pub(crate) fn say(text: &[u8]) {
-    io::write_all(STDOUT_FILENO, text);
+pub(crate) fn say(text: &[u8], output: &impl Print) {
+    files::write(output, text);
 }

@@ -1,11 +1,11 @@
 // Words by number, from a table.
 use crate::line::Text;
-use libc::STDOUT_FILENO;
+use std::io::Print;
 
 // Writes the words of a refusal number, those of document 01's table, and a line end.
-pub(crate) fn say_refused(number: u8) {
+pub(crate) fn say_refused(number: u8, output: &impl Print) {
     files::say_row(
-        STDOUT_FILENO,
+        output,
         b"payload length above 65,535\n\
           request id even\n\
           stream id even\n\

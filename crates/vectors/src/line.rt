@@ -5,7 +5,7 @@ ghost use Rattle.vectors.specs.Digits.{Stored};
 ghost use Rattle.vectors.specs.Taken.{first_line, ended_at, line_after, in_part, following as numberAfter, Taken};
 
 // What the rest of the line is: digits, text that is not read, or, once the line is known to be wrong, anything.
-#[derive(Drop)]
+#[derive(Clone, Copy)]
 pub enum Part {
     Digits,
     Note,
@@ -15,7 +15,7 @@ pub enum Part {
 }
 
 // `number` counts lines from 1, `held` the line's digits. Reading goes on while the input lasts and the output is taken.
-#[derive(Drop)]
+#[derive(Clone, Copy)]
 pub struct State {
     pub number: u64,
     pub held: usize,

@@ -5,11 +5,15 @@
 mod answer;
 mod line;
 
-use libc::{STDIN_FILENO, STDOUT_FILENO};
 use line::{Part, State};
+use std::io::{Print, Read};
+
+// As many bytes are read at a time.
+const PIECE: usize = 4096;
 
 // A proved loop has to end, and nothing says that the input does. So the loop counts its turns down, from a number that no run uses up.
-fn main() {
+fn main(rt: HostRuntime) {
+    let mut input = rt.stdin();
     let mut item = [0u8; frame::MAX_COMMAND];
     let mut state = line::first();
     let mut turns = u64::MAX;
@@ -17,43 +21,56 @@ fn main() {
         if !state.is_going {
             return;
         }
-        state = read_some(state, &mut item);
+        state = read_some(state, &mut input, &rt, &mut item);
         turns -= 1;
     }
 }
 
 // Reads once and takes what came. At the end of the input the last line ends too.
-fn read_some(state: State, item: &mut [u8; frame::MAX_COMMAND]) -> State {
-    let mut piece = io::buffer();
-    let got = libc::read(STDIN_FILENO, &mut piece);
-    if got < 0 {
-        return unread(state);
+fn read_some(
+    state: State,
+    input: &mut impl Read,
+    output: &impl Print,
+    item: &mut [u8; frame::MAX_COMMAND],
+) -> State {
+    let mut piece = [0u8; PIECE];
+    let Ok(n) = input.read(&mut piece) else {
+        return unread(state, output);
+    };
+    if n == 0 {
+        return line::ended(finish(state, output, item));
     }
-    if got == 0 {
-        return line::ended(finish(state, item));
-    }
-    let n = io::count(got, &piece);
-    take_all(state, &piece[..n], item)
+    take_all(state, &piece[..n], output, item)
 }
 
 // Takes bytes in order, until the output fails.
-fn take_all(state: State, bytes: &[u8], item: &mut [u8; frame::MAX_COMMAND]) -> State {
+fn take_all(
+    state: State,
+    bytes: &[u8],
+    output: &impl Print,
+    item: &mut [u8; frame::MAX_COMMAND],
+) -> State {
     let mut s = state;
     let mut i: usize = 0;
     while i < bytes.len() {
         if !s.is_going {
             return s;
         }
-        s = take(s, bytes[i], item);
+        s = take(s, bytes[i], output, item);
         i += 1;
     }
     s
 }
 
 // Takes one byte.
-fn take(state: State, b: u8, item: &mut [u8; frame::MAX_COMMAND]) -> State {
+fn take(
+    state: State,
+    b: u8,
+    output: &impl Print,
+    item: &mut [u8; frame::MAX_COMMAND],
+) -> State {
     if b == b'\n' {
-        return finish(state, item);
+        return finish(state, output, item);
     }
     let part = state.part;
     match part {
@@ -63,17 +80,17 @@ fn take(state: State, b: u8, item: &mut [u8; frame::MAX_COMMAND]) -> State {
 }
 
 // Writes what there is to say of the line that ends here, and begins the next.
-fn finish(state: State, item: &[u8; frame::MAX_COMMAND]) -> State {
+fn finish(state: State, output: &impl Print, item: &[u8; frame::MAX_COMMAND]) -> State {
     let mut out = [0u8; 4160];
     let n = answer::said(state, item, &mut out);
-    let is_written = io::write_all(STDOUT_FILENO, &out[..n]);
+    let is_written = output.write_all(&out[..n]).is_ok();
     line::after(state, is_written)
 }
 
 // A read that failed ends the run, and is said in place of the line.
-fn unread(state: State) -> State {
+fn unread(state: State, output: &impl Print) -> State {
     let mut out = [0u8; 4160];
     let n = answer::fault(state.number, b"the input cannot be read", &mut out);
-    io::write_all(STDOUT_FILENO, &out[..n]);
+    let _ = output.write_all(&out[..n]);
     line::ended(state)
 }
