@@ -1,18 +1,15 @@
 -- What a key that stands twice in the outer map, or none, does to an answer.
 -- Assumes nothing.
 use mathlib.Core.Path.{◌≡◌, refl}
-use mathlib.Core.List.{[], ◌∷◌}
 use mathlib.Core.Bool.{Bool, false}
-use denote.Enum.Declared.{tag_of}
-use types.Run.{OneOf, miss}
+use Prim.Native.Nat.{ℕ}
 use Rattle.command_map.specs.declared.Checked.{Checked}
 use Rattle.command_map.specs.declared.Checked.TheVariants.{Command, NotItem, NotCommand, DoubleKey}
 use Rattle.command_map.specs.Walk.{also_double}
-use Rattle.command_map.specs.contracts.Checked as checked
 
 -- a refusal stays, whatever else is double
-pub still-refused : (t : Bool) (c : Checked) → OneOf (1 ∷ 2 ∷ 3 ∷ []) (tag_of checked.the_type c) → also_double t c ≡ c
-still-refused t (Command start stop count first) h = absurd (miss (1 ∷ 2 ∷ 3 ∷ []) 0 tt h)
+pub still-refused : (t : Bool) (c : Checked) → ((start stop count first : ℕ) → c ≡ Command start stop count first → ⊥) → also_double t c ≡ c
+still-refused t (Command start stop count first) h = absurd (h start stop count first refl)
 still-refused t NotItem h = refl
 still-refused t NotCommand h = refl
 still-refused t DoubleKey h = refl

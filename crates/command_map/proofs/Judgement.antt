@@ -1,7 +1,7 @@
 -- The walk's judgement of all entries, part by part: it says of the list of entries what the definition of the command map says.
 -- Assumes nothing.
 use mathlib.Core.Path.{◌≡◌, refl, sym, ◌∙◌}
-use mathlib.Core.Bool.{Bool, true, false, cond, ◌&&◌, ◌||◌, false≢true, and-true, and-false, and_assoc, or-true, or_false, or_assoc}
+use mathlib.Core.Bool.{Bool, true, false, cond, ◌&&◌, ◌||◌, false≢true, and-true, and-false, and_assoc, or-true, or-false, or_assoc}
 use mathlib.Core.List.{List, [], ◌∷◌, foldl}
 use Prim.Native.Nat.{ℕ}
 use lib.ListN.{length}
@@ -91,7 +91,7 @@ module _ (s : List ℕ) where
 
     keys_step : (n at : ℕ) (t : Bool) → P (given n at t) → P (with_keys j (Map n at) (cond t Double Single))
     keys_step n at true p = rw (or-true j.double) at p
-    keys_step n at false p = rw (or_false j.double) at p
+    keys_step n at false p = rw (or-false j.double) at p
 
     name-step : (x : Item) → is_name x ≡ true → ((start stop : ℕ) → x ≡ Bytes start stop → P (named start stop)) → P (with_name j x)
     name-step x ok f =
@@ -127,13 +127,13 @@ module _ (s : List ℕ) where
   double-one : (j : Judged) (e : Entry) → allowed s e ≡ true → (judge s j e).double ≡ (j.double || args_double s e)
   unfolding args_double
   double-one j e ok = by_key (λ (k : Judged). k.double ≡ (j.double || (has_key s args_key e && has_double s (value_item s e)))) j e ok
-      (λ a start stop x. rw (one_key e a) (sym (or_false j.double)))
+      (λ a start stop x. rw (one_key e a) (sym (or-false j.double)))
       (λ a b n at x. rw (b, x))
-      (λ a b. rw b (sym (or_false j.double)))
+      (λ a b. rw b (sym (or-false j.double)))
 
   any-double : (j : Judged) (es : List Entry) → all (allowed s) es ≡ true → (foldl (judge s) j es).double ≡ (j.double || any (args_double s) es)
   unfolding all any
-  any-double j [] ok = sym (or_false j.double)
+  any-double j [] ok = sym (or-false j.double)
   any-double j (e ∷ es) ok =
       any-double (judge s j e) es (and_right (allowed s e) _ ok)
       ∙ rw (double-one j e (and_left (allowed s e) _ ok)) (or_assoc j.double _ _)

@@ -12,7 +12,7 @@ use entries::Entry;
 
 // The answer of the check: where the content of the command's name starts and stops, how many arguments it has and where the first
 // stands (0 and 0 if `args` is missing). Or 24, no item of the subset; 25, no command map; 26, a key twice.
-#[derive(Drop)]
+#[derive(Clone, Copy)]
 pub enum Checked {
     Command {
         start: usize,
@@ -27,7 +27,7 @@ pub enum Checked {
 
 // The judgement of the outer map's entries read so far: whether each is allowed, the values of the first `name` and the first `args`
 // (refused items while there is none), and whether a key stands twice in an `args`.
-#[derive(Drop)]
+#[derive(Clone, Copy)]
 struct Judged {
     allowed: bool,
     name: Item,
@@ -36,7 +36,7 @@ struct Judged {
 }
 
 // What the walk over the outer map found: the position after it, the judgement, and how many keys' places the row has.
-#[derive(Drop)]
+#[derive(Clone, Copy)]
 struct Fields {
     end: Next,
     judged: Judged,
