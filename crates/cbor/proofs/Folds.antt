@@ -1,33 +1,29 @@
 -- The folds `if_bytes` and `if_map`: what they give for an item that a pattern did not match, and what holds of their result.
 -- Assumes nothing.
 use mathlib.Core.Path.{◌≡◌, refl}
-use mathlib.Core.List.{[], ◌∷◌}
 use Prim.Native.Nat.{ℕ}
-use denote.Enum.Declared.{tag_of}
-use types.Run.{OneOf, miss}
 use Rattle.cbor.specs.declared.Item.{Item}
 use Rattle.cbor.specs.declared.Item.TheVariants.{Unsigned, Negative, Bytes, Simple, Array, Map, Set, Refused}
 use Rattle.cbor.specs.Cbor.{if_bytes, if_map}
-use Rattle.cbor.specs.contracts.Item.{the_type}
 
 module _ {A : Type 0} where
-  pub not-bytes : (x : Item) → OneOf (0 ∷ 1 ∷ 3 ∷ 4 ∷ 5 ∷ 6 ∷ 7 ∷ []) (tag_of the_type x) → (f : ℕ → ℕ → A) (d : A) → if_bytes x f d ≡ d
+  pub not-bytes : (x : Item) → ((start stop : ℕ) → x ≡ Bytes start stop → ⊥) → (f : ℕ → ℕ → A) (d : A) → if_bytes x f d ≡ d
   not-bytes (Unsigned n next) h f d = refl
   not-bytes (Negative n next) h f d = refl
-  not-bytes (Bytes start next) h f d = absurd (miss (0 ∷ 1 ∷ 3 ∷ 4 ∷ 5 ∷ 6 ∷ 7 ∷ []) 2 tt h)
+  not-bytes (Bytes start next) h f d = absurd (h start next refl)
   not-bytes (Simple next) h f d = refl
   not-bytes (Array n at) h f d = refl
   not-bytes (Map n at) h f d = refl
   not-bytes (Set n at) h f d = refl
   not-bytes Refused h f d = refl
 
-  pub not-map : (x : Item) → OneOf (0 ∷ 1 ∷ 2 ∷ 3 ∷ 4 ∷ 6 ∷ 7 ∷ []) (tag_of the_type x) → (f : ℕ → ℕ → A) (d : A) → if_map x f d ≡ d
+  pub not-map : (x : Item) → ((n at : ℕ) → x ≡ Map n at → ⊥) → (f : ℕ → ℕ → A) (d : A) → if_map x f d ≡ d
   not-map (Unsigned n next) h f d = refl
   not-map (Negative n next) h f d = refl
   not-map (Bytes start next) h f d = refl
   not-map (Simple next) h f d = refl
   not-map (Array n at) h f d = refl
-  not-map (Map n at) h f d = absurd (miss (0 ∷ 1 ∷ 2 ∷ 3 ∷ 4 ∷ 6 ∷ 7 ∷ []) 5 tt h)
+  not-map (Map n at) h f d = absurd (h n at refl)
   not-map (Set n at) h f d = refl
   not-map Refused h f d = refl
 

@@ -1,8 +1,6 @@
 // Commands: the check of a command's bytes, and the lookups in a command that passes it.
 #![tactic(auto)]
 
-pub mod c;
-
 ghost use Rattle.std.specs.Prelude.{◌≡◌};
 ghost use Rattle.command.specs.Command.{checked, number_of};
 ghost use Rattle.command.specs.Lookup.{place_number, number_number, number_value, signed_of, name_of, count_of, mark_of, argument_at, part_at, integer_at};
@@ -12,14 +10,14 @@ use command_map::Checked;
 use entries::Entry;
 
 // Where an argument's value starts and stops, or the refusal number.
-#[derive(Drop)]
+#[derive(Clone, Copy)]
 pub enum Place {
     Found(usize, usize),
     NotFound(u32),
 }
 
 // An argument as a signed integer, or the refusal number.
-#[derive(Drop)]
+#[derive(Clone, Copy)]
 pub enum Number {
     Whole(i64),
     NoNumber(u32),

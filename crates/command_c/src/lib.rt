@@ -1,4 +1,6 @@
 // The calls for C: a byte slice is a pointer and then a length, and the number is the result.
+#![tactic(auto)]
+
 ghost use Rattle.std.specs.Prelude.{◌≡◌};
 ghost use Rattle.command.specs.Command.{checked, number_of};
 ghost use Rattle.command.specs.Lookup.{place_number, number_number, number_value, count_of, mark_of, argument_at, integer_at};
@@ -8,7 +10,7 @@ ghost use Rattle.command.specs.Lookup.{place_number, number_number, number_value
 pub extern "C" fn command_check(command: &[u8]) -> u32
     ensures { result ≡ number_of (checked command.now) }
 {
-    crate::name_number(command)
+    command::name_number(command)
 }
 
 // How many arguments the command has, 0 if it is refused.
@@ -16,7 +18,7 @@ pub extern "C" fn command_check(command: &[u8]) -> u32
 pub extern "C" fn command_argument_count(command: &[u8]) -> u64
     ensures { result ≡ count_of command.now }
 {
-    crate::argument_count(command)
+    command::argument_count(command)
 }
 
 // The mark of a command that is written loosely: 1 if one of its heads is not the shortest, else 0; 0 if it is refused.
@@ -24,7 +26,7 @@ pub extern "C" fn command_argument_count(command: &[u8]) -> u64
 pub extern "C" fn command_loose(command: &[u8]) -> u32
     ensures { result ≡ mark_of command.now }
 {
-    crate::loose(command)
+    command::loose(command)
 }
 
 // The lookup of an argument: the check's number, then 6.
@@ -32,7 +34,7 @@ pub extern "C" fn command_loose(command: &[u8]) -> u32
 pub extern "C" fn command_argument_number(command: &[u8], key: &[u8]) -> u32
     ensures { result ≡ place_number (argument_at command.now key.now) }
 {
-    crate::argument_number(command, key)
+    command::argument_number(command, key)
 }
 
 // An argument as an integer: the check's number, then 6, 7 or 8.
@@ -40,7 +42,7 @@ pub extern "C" fn command_argument_number(command: &[u8], key: &[u8]) -> u32
 pub extern "C" fn command_integer_number(command: &[u8], key: &[u8]) -> u32
     ensures { result ≡ number_number (integer_at command.now key.now) }
 {
-    crate::integer_number(command, key)
+    command::integer_number(command, key)
 }
 
 // An argument as an integer, 0 if refused.
@@ -48,5 +50,5 @@ pub extern "C" fn command_integer_number(command: &[u8], key: &[u8]) -> u32
 pub extern "C" fn command_integer(command: &[u8], key: &[u8]) -> i64
     ensures { result ≡ number_value (integer_at command.now key.now) }
 {
-    crate::integer(command, key)
+    command::integer(command, key)
 }
