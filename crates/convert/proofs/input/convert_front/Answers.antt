@@ -1,6 +1,6 @@
--- `convert::input::convert_front` meets its contract: the whole records in front are a whole log, the output is long enough for its new
--- form, and less is left than a record can have. Assumes nothing.
-use Rattle.std.proofs.Common.{◌≡◌, ℕ, ◌*◌, ◌≤◌, List, length, take, refl, ap, ◌∙◌, arith, rules}
+-- `convert::input::convert_front`: the whole records in front are a whole log, the output is long enough for its new form, and less is left
+-- than a record can have. Assumes nothing.
+use Rattle.std.proofs.Common.{◌≡◌, ℕ, ◌*◌, ◌≤◌, List, length, take, refl, ap, ◌∙◌, arith}
 use Rattle.buffer.specs.Answers.{Answer, answer, wrote}
 use Rattle.buffer.proofs.WriteLaws.{take-front}
 use Rattle.fields.specs.Laws.{AreBytes}
@@ -13,8 +13,7 @@ use Rattle.logs.proofs.Pieces.{front-whole, front-wider, grows_by_half, held-sho
 use Rattle.convert.proofs.Parts.{part-front}
 use Rattle.convert.specs.Turns.{room_length, Rewritten}
 use Rattle.convert.specs.declared.input.Front.{Front}
-use Rattle.convert.proofs.input.convert_front.Statement.{statement}
-use Rattle.convert.proofs.input.convert_front.Tie as tie
+use Rattle.convert.proofs.input.convert_front.Goals as goal
 
 module _ (s : List ℕ) (n : ℕ) (e : n ≡ whole_length 2 s) where
   -- the answer of the converter on the whole records
@@ -39,19 +38,9 @@ module _ (s : List ℕ) (n : ℕ) (e : n ≡ whole_length 2 s) where
   unfolding at_once
   rewritten r out' bytes t w = record { taken = t ∙ e; written = w; left = rw (t, e) (omega (arith, held-short 2 s bytes)) }
 
-returns : tie.Need-returns
+pub returns : goal.returns
 returns c =
-    let w = c.before.before.before in
-    let s = w.before.before.args.bytes.now in
-    let bytes : AreBytes s = record { byte = λ i. omega (arith, w.before.shared-slice-known.given i) } in
-    let wrote = writes s _ w.whole.ensures _ _ c.before.before.part.ensures (omega arith) w.before.before.requires _ _ _ c.convert.ensures in
-    rewritten s _ w.whole.ensures _ _ bytes refl wrote
-
-pub convert-front-spec : {M : Type 1} → statement M
-convert-front-spec =
-    tie.close
-    (tie.spec
-    (λ c κs. search rules)
-    (λ c κs. search rules)
-    (λ c κs. search rules)
-    returns)
+    let s = c.args.bytes.now in
+    let bytes : AreBytes s = record { byte = λ i. omega (arith, c.type_inv.bytes i) } in
+    let wrote = writes s _ c.whole-taken.ensures _ _ c.part.ensures (omega arith) c.requires _ _ _ c.convert-done.ensures in
+    rewritten s _ c.whole-taken.ensures _ _ bytes refl wrote
