@@ -1,6 +1,5 @@
 -- What the proofs of several functions use, and the laws of the board.
 mod Coils
-mod Named
 mod Only
 pub mod Asked
 pub mod BoardLaws

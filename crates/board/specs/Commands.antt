@@ -130,7 +130,7 @@ module _ (s : List ℕ) where
 
 -- the number of each
 abbrev pub change_number : Change → ℕ
-change_number (change.Switch coil on) = 0
-change_number (change.Label coil start stop) = 0
+change_number (change.Switch place on) = 0
+change_number (change.Label place start stop) = 0
 change_number change.AllOff = 0
 change_number (change.Refused n) = n

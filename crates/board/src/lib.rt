@@ -12,7 +12,7 @@ pub const COILS: usize = 16;
 pub const LONGEST_LABEL: usize = 16;
 
 // A coil: whether it is on, and its label, of whose sixteen places the first `length` are used.
-#[derive(Drop)]
+#[derive(Clone, Copy)]
 pub struct Coil {
     pub on: bool,
     pub length: usize,
@@ -20,14 +20,14 @@ pub struct Coil {
 }
 
 // The sixteen coils.
-#[derive(Drop)]
+#[derive(Clone, Copy)]
 pub struct Board {
     pub coils: [Coil; 16],
 }
 
 // What a command asks for: a coil's switch; a coil's label, with the places where the text starts and stops in the command's bytes; all coils
 // off; or nothing, by its refusal number.
-#[derive(Drop)]
+#[derive(Clone, Copy)]
 enum Change {
     Switch(usize, bool),
     Label(usize, usize, usize),
@@ -36,7 +36,7 @@ enum Change {
 }
 
 // What a command comes to: 0 or the refusal number, and the board after it.
-#[derive(Drop)]
+#[derive(Clone, Copy)]
 pub struct Applied {
     pub number: u32,
     pub board: Board,

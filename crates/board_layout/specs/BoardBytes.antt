@@ -1,6 +1,6 @@
 -- The board in bytes: sixteen coils of switch (1, 0 or 1), length (1, 0 to 16) and label (16, as they are), 288 in all. Label bytes past the
 -- length may be any. These are definitions: they assume nothing.
-use Rattle.std.specs.Prelude.{ℕ, suc, ◌+◌, ◌*◌, Bool, List, length}
+use Rattle.std.specs.Prelude.{ℕ, suc, ◌+◌, ◌*◌, Bool, List}
 use Rattle.std.proofs.Math.Option.{Option}
 use Rattle.board.specs.declared.Coil.{Coil}
 use Rattle.board.specs.declared.Board.{Board}

@@ -1,7 +1,6 @@
 -- What the proofs of several functions use.
 pub mod Answers
 mod Cases
-mod Signed
 pub mod Empty
 pub mod Missing
 pub mod Marks

@@ -27,7 +27,7 @@ const ENOTDIR: i32 = 20;
 
 const EISDIR: i32 = 21;
 
-const ESPIPE: i32 = 29;
+pub const ESPIPE: i32 = 29;
 
 const ENAMETOOLONG: i32 = 36;
 

@@ -17,10 +17,6 @@ use Rattle.logdiff.specs.Turns.{room_length, Within, at_hand, passed, Sound, Kep
 use Rattle.logdiff.specs.declared.window.Window.{Window}
 use Rattle.logdiff.specs.declared.compare.Run.{Run}
 
--- what is false is not true
-pub never : {b : Bool} {A : Type 0} → b ≡ false → b ≡ true → A
-never e f = let z : ◌≡◌ {A = ℕ} 0 1 = cc in let none : ⊥ = omega arith in absurd none
-
 -- ---- what is at hand behind bytes that are taken
 
 part-passed : (s : List ℕ) (a b n : ℕ) → a ≤ b → part s (min (a + n) b) b ≡ drop n (part s a b)

@@ -11,33 +11,33 @@ use log_compare::Comparing;
 const LINE: usize = 64;
 
 // Where the comparison stands, what is at hand of each log, how many bytes of the output wait to be written, and whether it goes on.
-#[derive(Drop)]
-struct Run {
+#[derive(Clone, Copy)]
+struct Run<'a> {
     state: Comparing,
-    first: Window,
-    second: Window,
+    first: Window<'a>,
+    second: Window<'a>,
     held: usize,
     is_going: bool,
 }
 
 // Compares the logs, and writes a line for each difference. A proved loop has to end, and nothing of the files says that it does. So the
 // loop counts its turns down, from a number that no run uses up.
-pub(crate) fn compare_all(one: Log, two: Log, a: &mut Room, b: &mut Room) {
+pub(crate) fn compare_all(rt: &HostRuntime, one: Log, two: Log, a: &mut Room, b: &mut Room) {
     let mut out = [0u8; ROOM];
-    let mut run = start(one, two);
+    let mut run = start(&one, &two);
     let mut turns = u64::MAX;
     while turns > 0 {
         if !run.is_going {
             return;
         }
-        run = run.turn(a, b, &mut out);
+        run = run.turn(rt, a, b, &mut out);
         turns -= 1;
     }
 }
 
 // At the front of both logs.
-fn start(one: Log, two: Log) -> Run
-    ensures { Started one two result }
+fn start<'a>(one: &'a Log, two: &'a Log) -> Run<'a>
+    ensures { Started one.now two.now result }
 {
     let state = Comparing::start();
     let first = Window::start(one);
@@ -51,12 +51,12 @@ fn start(one: Log, two: Log) -> Run
     }
 }
 
-impl Run {
+impl<'a> Run<'a> {
     // Something of each log is at hand, or it is at its end: then a step is made. Where a read brings nothing of the bytes that are left, the
     // log changed.
-    fn turn(self, a: &mut Room, b: &mut Room, out: &mut Room) -> Run
+    fn turn(self, rt: &HostRuntime, a: &mut Room, b: &mut Room, out: &mut Room) -> Run<'a>
         requires { Sound self }
-        ensures { (Sound result) × (result.is_going ≡ true → Turned self a.old b.old out.old result a.new b.new out.new) }
+        ensures { (Sound result) × (result.is_going ≡ true → Turned self.entry a.old b.old out.old result a.new b.new out.new) }
     {
         let state = self.state;
         let x = self.first;
@@ -71,21 +71,21 @@ impl Run {
             is_going: true,
         };
         if first.is_dry() {
-            return run.changed(1, out);
+            return run.changed(rt, 1, out);
         }
         if second.is_dry() {
-            return run.changed(2, out);
+            return run.changed(rt, 2, out);
         }
         if first.is_empty() & second.is_empty() {
-            return run.at_end(out);
+            return run.at_end(rt, out);
         }
-        run.stepped(a, b, out)
+        run.stepped(rt, a, b, out)
     }
 
     // A step with what is at hand. A line is put for what it says only where both logs can have what their heads claim.
-    fn stepped(self, a: &Room, b: &Room, out: &mut Room) -> Run
+    fn stepped(self, rt: &HostRuntime, a: &Room, b: &Room, out: &mut Room) -> Run<'a>
         requires { Sound self }
-        ensures { (Sound result) × (result.is_going ≡ true → Stepped self a.now b.now out.old result out.new) }
+        ensures { (Sound result) × (result.is_going ≡ true → Stepped self.entry a.now b.now out.old result out.new) }
     {
         let state = self.state;
         let first = self.first;
@@ -99,7 +99,7 @@ impl Run {
         let next = step.state;
         let log = self.other(next, step.first, step.second);
         if log != 0 {
-            return self.changed(log, out);
+            return self.changed(rt, log, out);
         }
         let said = step.said;
         let run = Run {
@@ -109,33 +109,33 @@ impl Run {
             held: lines::put_said(said, out, self.held),
             is_going: true,
         };
-        run.with_room(out)
+        run.with_room(rt, out)
     }
 
     // With the output written, where the next line may not fit.
-    fn with_room(self, out: &Room) -> Run
+    fn with_room(self, rt: &HostRuntime, out: &Room) -> Run<'a>
         requires { self.held ≤ room_length }
-        ensures { Kept self result }
+        ensures { Kept self.entry result }
     {
         if self.held + LINE <= ROOM {
             return self;
         }
         let mut next = self;
         next.held = 0;
-        next.is_going = say::tell(keys::part(&out[..], 0, self.held));
+        next.is_going = say::tell(rt, keys::part(&out[..], 0, self.held));
         next
     }
 
     // Both logs are at their ends, which lie between records unless one changed.
-    fn at_end(self, out: &mut Room) -> Run
+    fn at_end(self, rt: &HostRuntime, out: &mut Room) -> Run<'a>
         requires { Sound self }
         ensures { (Sound result) × (result.is_going ≡ false) }
     {
         let state = self.state;
         if !state.is_end() {
-            return self.changed(self.cut(), out);
+            return self.changed(rt, self.cut(), out);
         }
-        self.over(keys::part(&out[..], 0, self.held))
+        self.over(rt, keys::part(&out[..], 0, self.held))
     }
 
     // The log that is another one than was read through, as a step shows that takes so many bytes, or 0. With whole logs a step takes a
@@ -171,21 +171,21 @@ impl Run {
     }
 
     // The output ends with the line that says which log changed.
-    fn changed(self, log: usize, out: &mut Room) -> Run
+    fn changed(self, rt: &HostRuntime, log: usize, out: &mut Room) -> Run<'a>
         requires { Sound self }
         ensures { (Sound result) × (result.is_going ≡ false) }
     {
         let end = lines::put_fault(b"changed", log, out, self.held);
         let n = text::put(b"\n", out, end);
-        self.over(keys::part(&out[..], 0, n))
+        self.over(rt, keys::part(&out[..], 0, n))
     }
 
     // With the last of the output written. Nothing more is compared.
-    fn over(self, rest: &[u8]) -> Run
+    fn over(self, rt: &HostRuntime, rest: &[u8]) -> Run<'a>
         requires { Sound self }
         ensures { (Sound result) × (result.is_going ≡ false) }
     {
-        say::tell(rest);
+        say::tell(rt, rest);
         let mut next = self;
         next.is_going = false;
         next

@@ -9,48 +9,53 @@ mod say;
 mod through;
 mod window;
 
+use files::Source;
+use std::fs::OpenOptions;
 use through::Looked;
 use window::ROOM;
 
-fn main() {
-    let count = os::arg_count();
+fn main(rt: HostRuntime) {
+    let count = files::arg_count(&rt);
     if 3 < count {
-        say::say_count(3);
+        say::say_count(&rt, 3);
         return;
     }
-    if (count == 2) & asks_help() {
-        say::say_help();
+    if (count == 2) & asks_help(&rt) {
+        say::say_help(&rt);
         return;
     }
-    keep_input();
-    compare_logs(count);
+    keep_input(&rt);
+    compare_logs(&rt, count);
 }
 
 // Keeps the number of standard input, where that is closed, from the first log that is opened: else - would be that log as well. What takes
 // it cannot be read.
-fn keep_input() {
-    let file = os::open_append(b"/dev/null");
-    if 0 < file {
-        libc::close(file);
+fn keep_input(rt: &HostRuntime) {
+    let mut options = OpenOptions::new();
+    options.append(true);
+    if let Ok(file) = options.open(rt, "/dev/null") {
+        Source::Named(file).close();
     }
 }
 
 // Whether the first argument asks what the program does. Beside a second one it is a log's name.
-fn asks_help() -> bool {
-    let mut word = io::buffer();
-    let n = os::arg(1, &mut word);
-    keys::same_key(keys::part(&word, 0, n), b"--help")
+fn asks_help(rt: &HostRuntime) -> bool {
+    let mut word = [0u8; files::WORD];
+    match files::arg(rt, 1, &mut word) {
+        Ok(n) => keys::same_key(keys::part(&word, 0, n), b"--help"),
+        Err(_) => false,
+    }
 }
 
-// Reads one log through, then the other, and compares them. The files stay open to the program's end, which follows.
-fn compare_logs(count: usize) {
+// Reads one log through, then the other, and compares them.
+fn compare_logs(rt: &HostRuntime, count: usize) {
     let mut a = [0u8; ROOM];
     let mut b = [0u8; ROOM];
-    let Looked::Whole(one) = through::look(1, count, &mut a) else {
+    let Looked::Whole(one) = through::look(rt, 1, count, &mut a) else {
         return;
     };
-    let Looked::Whole(two) = through::look(2, count, &mut b) else {
+    let Looked::Whole(two) = through::look(rt, 2, count, &mut b) else {
         return;
     };
-    compare::compare_all(one, two, &mut a, &mut b);
+    compare::compare_all(rt, one, two, &mut a, &mut b);
 }

@@ -1,55 +1,58 @@
 // Writes what is wrong with a log to standard output, in its one line, and what is said besides to standard error.
 use crate::lines;
-use libc::{STDERR_FILENO, STDOUT_FILENO};
 
 // Writes that a log is broken, and the place, from 0, where the record starts that is not all there.
-pub(crate) fn say_broken(log: usize, place: u64) {
+pub(crate) fn say_broken(rt: &HostRuntime, log: usize, place: u64) {
     let mut line = [0u8; 64];
     let at = lines::put_fault(b"broken", log, &mut line, 0);
     let end = lines::put_spaced(place, &mut line, at);
     let n = text::put(b"\n", &mut line, end);
-    tell(keys::part(&line, 0, n));
+    tell(rt, keys::part(&line, 0, n));
 }
 
 // Writes that a log cannot be read, and why: by its name, or by the argument's number where that is no name.
-pub(crate) fn say_unread(log: usize, name: &[u8], error: i32) {
-    say_log(log);
+pub(crate) fn say_unread(rt: &HostRuntime, log: usize, name: &[u8], error: i32) {
+    say_log(rt, log);
     if name.len() == 0 {
-        files::say_nameless(STDERR_FILENO, log, error);
+        files::say_nameless(&rt.stderr(), log, error);
         return;
     }
-    files::say_unread(STDERR_FILENO, name, error);
+    files::say_unread(&rt.stderr(), name, error);
 }
 
 // Writes that a log is missing, or is one too many.
-pub(crate) fn say_count(log: usize) {
-    say_log(log);
-    say(b"logdiff takes two logs; logdiff --help says what there is\n");
+pub(crate) fn say_count(rt: &HostRuntime, log: usize) {
+    say_log(rt, log);
+    say(
+        rt,
+        b"logdiff takes two logs; logdiff --help says what there is\n",
+    );
 }
 
-fn say_log(log: usize) {
+fn say_log(rt: &HostRuntime, log: usize) {
     let mut line = [0u8; 64];
     let end = lines::put_fault(b"unread", log, &mut line, 0);
     let n = text::put(b"\n", &mut line, end);
-    tell(keys::part(&line, 0, n));
+    tell(rt, keys::part(&line, 0, n));
 }
 
 // Writes some lines to standard output, and answers whether they are taken. Where they are not, that is said.
-pub(crate) fn tell(text: &[u8]) -> bool {
-    if io::write_all(STDOUT_FILENO, text) {
+pub(crate) fn tell(rt: &HostRuntime, text: &[u8]) -> bool {
+    if files::write(&rt.stdout(), text) {
         return true;
     }
-    say(b"the output cannot be written\n");
+    say(rt, b"the output cannot be written\n");
     false
 }
 
-fn say(text: &[u8]) {
-    io::write_all(STDERR_FILENO, text);
+fn say(rt: &HostRuntime, text: &[u8]) {
+    files::write(&rt.stderr(), text);
 }
 
 // Writes what the program does.
-pub(crate) fn say_help() {
+pub(crate) fn say_help(rt: &HostRuntime) {
     tell(
+        rt,
         b"logdiff LOG1 LOG2\n\
           \n\
           Compares two stored logs, whose records have four-byte body lengths, record by record: their kinds and their bodies.\n\

@@ -17,14 +17,14 @@ small NotItem = omega arith
 small NotCommand = omega arith
 small DoubleKey = omega arith
 
-cast-result : tie.Need-overflow-cast-result
+cast-result : tie.Need-overflow_cast-result
 cast-result c =
-    let h : c.refusal.result < 256 = rw c.refusal.ensures (small c.before.check.result) in
+    let h : c.refusal.result < 256 = rw c.refusal.ensures (small c.check.result) in
     search rules
 
 returns : tie.Need-returns
 unfolding check_of
-returns c = c.refusal.ensures ∙ ap number_of c.before.check.ensures
+returns c = c.refusal.ensures ∙ ap number_of c.check.ensures
 
-pub command-number-spec : {M : Type 1} → statement M
-command-number-spec = tie.close (tie.spec (λ c κs. search rules) (λ c κs. search rules) cast-result returns)
+pub command_number_spec : {M : Type 1} → statement M
+command_number_spec = tie.close (tie.spec (λ c κs. search rules) (λ c κs. search rules) cast-result returns)

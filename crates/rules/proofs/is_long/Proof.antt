@@ -17,11 +17,11 @@ apart k a b h = go (ltb k (a + b)) refl
     go true e = lt-ltb (k - a) b (omega (arith, ltb-true k (a + b) e))
     go false e = le-ltb (k - a) b (omega (arith, ltb-false k (a + b) e))
 
-returns : tie.Need-returns
-returns c = sym (lt-ltb max_command (c.before.args.held + c.before.args.more) (omega arith))
+returns : tie.Need-returns-then-held-gt-MAX_COMMAND
+returns c = sym (lt-ltb max_command (c.args.held + c.args.more) (omega arith))
 
-returns-2 : tie.Need-returns-2
-returns-2 c = apart max_command c.before.args.held c.before.args.more c.if1.false
+returns-2 : tie.Need-returns
+returns-2 c = apart max_command c.args.held c.args.more c.if-held-gt-MAX_COMMAND.false
 
-pub is-long-spec : {M : Type 1} → statement M
-is-long-spec = tie.close (tie.spec returns returns-2)
+pub is_long_spec : {M : Type 1} → statement M
+is_long_spec = tie.close (tie.spec returns returns-2)

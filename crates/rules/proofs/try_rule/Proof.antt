@@ -12,16 +12,16 @@ unfolding tried
 kept zero b number h = absurd (h refl)
 kept (suc n) b number h = refl
 
-returns : tie.Need-returns
-returns c = kept _ _ _ c.if1.true
+returns : tie.Need-returns-then-n-ne0
+returns c = kept _ _ _ c.if-n-ne0.true
 
-returns-2 : tie.Need-returns-2
+returns-2 : tie.Need-returns-then-broken
 unfolding tried
-returns-2 c = rw (c.before.if1.false, c.if2.true)
+returns-2 c = rw (c.if-n-ne0.false, c.if-broken.true)
 
-returns-3 : tie.Need-returns-3
+returns-3 : tie.Need-returns
 unfolding tried
-returns-3 c = rw (c.before.if1.false, c.if2.false)
+returns-3 c = rw (c.if-n-ne0.false, c.if-broken.false)
 
-pub try-rule-spec : {M : Type 1} → statement M
-try-rule-spec = tie.close (tie.spec returns returns-2 returns-3)
+pub try_rule_spec : {M : Type 1} → statement M
+try_rule_spec = tie.close (tie.spec returns returns-2 returns-3)
