@@ -94,11 +94,7 @@ pub fn is_option(word: &[u8]) -> bool
 }
 
 // Standard input, or a file that is opened for reading.
-pub fn opened(
-    system: &impl Files<File = File>,
-    input: Stdin,
-    name: &[u8],
-) -> Result<Source, i32> {
+pub fn opened(system: &impl Files<File = File>, input: Stdin, name: &[u8]) -> Result<Source, i32> {
     if keys::same_key(name, b"-") {
         return Ok(Source::Standard(input));
     }
