@@ -72,13 +72,6 @@ module _ (make : Bool → Bool → List ℕ → Frame) (size : ℕ) where
 
   module _ (bytes all out₀ : List ℕ) (at : ℕ) (out : List ℕ) (q p left : ℕ) (first : Bool) (g : Going bytes all out₀ at out q p left first) where
     module _ (h : 0 < left) where
-      pub room : p + size ≤ length bytes
-      room = go left h g.within
-        where
-          go : (n : ℕ) → 0 < n → p + n * size ≤ length bytes → p + size ≤ length bytes
-          go zero k l = absurd (not-suc-le-zero k)
-          go (suc n) k l = omega arith
-
       fewer : p + size + (left - 1) * size ≤ length bytes
       fewer = go left h g.within
         where

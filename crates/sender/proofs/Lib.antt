@@ -2,6 +2,5 @@
 pub mod PartLaws
 pub mod CommandLaws
 pub mod FrameLaws
-pub mod FlagLaws
 pub mod MessageLaws
 pub mod SendLaws

@@ -20,12 +20,14 @@ fn flag_if(value: u8, is_set: bool) -> u8
     0
 }
 
+#[tactic(auto, unfolding(crate::specs::Frames::stream_flags))]
 fn stream_flags(begin: bool, end: bool) -> u8
     ensures { result ≡ stream_flags begin end }
 {
     flag_if(0x01, begin) + flag_if(0x02, end)
 }
 
+#[tactic(auto, unfolding(crate::specs::Frames::command_flags))]
 fn command_flags(with_data: bool, first: bool, last: bool) -> u8
     ensures { result ≡ command_flags with_data first last }
 {
@@ -37,6 +39,7 @@ fn command_flags(with_data: bool, first: bool, last: bool) -> u8
     0x02 + more + follows
 }
 
+#[tactic(auto, unfolding(crate::specs::Frames::data_flags))]
 fn data_flags(last: bool) -> u8
     ensures { result ≡ data_flags last }
 {

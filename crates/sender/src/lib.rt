@@ -39,6 +39,7 @@ fn refused(number: u32) -> Sent
 }
 
 // The refusal of an even id or of a size outside the range: 50 or 51, else 0.
+#[tactic(auto, unfolding(crate::specs::Steps::wish_number, frame::specs::Frame::is_even))]
 fn wish_number(how: Wishes) -> u32
     ensures { result ≡ wish_number how }
 {

@@ -27,14 +27,14 @@ byte-is : (command : List ℕ) (with-data found : Bool) (d m : ℕ) → check_of
 unfolding command_byte check_of
 byte-is command with-data found d m passes f-is d-is m-is = rw (d-is, m-is, bit_is found, marked command found f-is passes)
 
-mul-result : tie.Need-overflow-mul-result
-mul-result c = omega (arith, at_most_one _ _ c.bit2.ensures)
+mul-result : tie.Need-overflow_mul-result
+mul-result c = omega (arith, at_most_one _ _ c.bit-2.ensures)
 
-add-result : tie.Need-overflow-add-result
-add-result c = omega (arith, at_most_one _ _ c.bit2.ensures, at_most_one _ _ c.before.before.bit.ensures)
+add-result : tie.Need-overflow_add-result
+add-result c = omega (arith, at_most_one _ _ c.bit-2.ensures, at_most_one _ _ c.bit.ensures)
 
 returns : tie.Need-returns
-returns c = byte-is _ _ _ _ _ c.before.before.before.before.requires c.before.scan.ensures c.before.before.bit.ensures c.bit2.ensures
+returns c = byte-is _ _ _ _ _ c.requires c.scan.ensures c.bit.ensures c.bit-2.ensures
 
-pub command-byte-spec : {M : Type 1} → statement M
-command-byte-spec = tie.close (tie.spec (λ c κs. search rules) (λ c κs. search rules) (λ c κs. search rules) mul-result add-result returns)
+pub command_byte_spec : {M : Type 1} → statement M
+command_byte_spec = tie.close (tie.spec (λ c κs. search rules) (λ c κs. search rules) (λ c κs. search rules) mul-result add-result returns)

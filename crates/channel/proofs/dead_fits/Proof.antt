@@ -5,17 +5,17 @@ use Rattle.channel.specs.Channel.{dead_fits}
 use Rattle.channel.proofs.dead_fits.Statement.{statement}
 use Rattle.channel.proofs.dead_fits.Tie as tie
 
-returns : tie.Need-returns
+returns : tie.Need-returns-then-n-eq0
 unfolding dead_fits
-returns c = rw (eq-eqb _ _ c.if1.true)
+returns c = rw (eq-eqb _ _ c.if-n-eq0.true)
 
-returns-2 : tie.Need-returns-2
+returns-2 : tie.Need-returns-then-n-lt11
 unfolding dead_fits
-returns-2 c = rw (ne_eqb _ _ c.before.if1.false, lt-leb 11 _ c.if2.true)
+returns-2 c = rw (ne_eqb _ _ c.if-n-eq0.false, lt-leb 11 _ c.if-n-lt11.true)
 
-returns-3 : tie.Need-returns-3
+returns-3 : tie.Need-returns
 unfolding dead_fits
-returns-3 c = rw (ne_eqb _ _ c.before.if1.false, le-leb 11 _ c.if2.false)
+returns-3 c = rw (ne_eqb _ _ c.if-n-eq0.false, le-leb 11 _ c.if-n-lt11.false)
 
-pub dead-fits-spec : {M : Type 1} → statement M
-dead-fits-spec = tie.close (tie.spec returns returns-2 returns-3)
+pub dead_fits_spec : {M : Type 1} → statement M
+dead_fits_spec = tie.close (tie.spec returns returns-2 returns-3)

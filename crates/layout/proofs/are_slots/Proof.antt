@@ -12,24 +12,24 @@ use Rattle.fields.proofs.Loops.{good_more, good-end}
 use Rattle.layout.proofs.are_slots.Statement.{statement}
 use Rattle.layout.proofs.are_slots.Tie as tie
 
-abbrev invariant-loop : tie.invariant-loop
+abbrev invariant-loop : tie.invariant-loop-left
 invariant-loop b good₀ left₀ at₀ good left at =
     (at + 6 * left ≡ streams_at) × (streams_at ≤ length b) × (good_all slot 8 (drop slots_at b) ≡ (good && good_all slot left (drop at b)))
 
-abbrev decreases-loop : tie.decreases-loop
+abbrev decreases-loop : tie.decreases-loop-left
 decreases-loop b good₀ left₀ at₀ good left at = left
 
-loop-again : tie.Need-loop-preserved invariant-loop decreases-loop
+loop-again : tie.Need-loop-left-preserved invariant-loop decreases-loop
 loop-again c =
     let l = c.before.before in
-    let b = l.before.before.args.b.now in
-    (omega arith, l.loop.invariant.1, l.loop.invariant.2 ∙ rw c.is-slot.ensures (good_more slot l.loop.good l.loop.left l.loop.at b (omega arith)))
+    let b = l.args.b.now in
+    (omega arith, l.loop-left.invariant.1, l.loop-left.invariant.2 ∙ rw c.is_slot-good.ensures (good_more slot l.loop-left.good l.loop-left.left l.loop-left.at b (omega arith)))
 
 returns : tie.Need-returns invariant-loop decreases-loop
-returns c = sym (c.before.loop.invariant.2 ∙ good-end slot c.before.loop.good c.before.loop.left _ (omega arith))
+returns c = sym (c.loop-left.invariant.2 ∙ good-end slot c.loop-left.good c.loop-left.left _ (omega arith))
 
-pub are-slots-spec : {M : Type 1} → statement M
-are-slots-spec =
+pub are_slots_spec : {M : Type 1} → statement M
+are_slots_spec =
     tie.close
     (tie.spec
     invariant-loop

@@ -13,24 +13,24 @@ use Rattle.fields.proofs.Places.{byte-get}
 use Rattle.layout.proofs.are_streams.Statement.{statement}
 use Rattle.layout.proofs.are_streams.Tie as tie
 
-abbrev invariant-loop : tie.invariant-loop
+abbrev invariant-loop : tie.invariant-loop-left
 invariant-loop b good₀ left₀ at₀ good left at =
     (at + left ≡ active_at) × (active_at ≤ length b) × (good_all flag 128 (drop streams_at b) ≡ (good && good_all flag left (drop at b)))
 
-abbrev decreases-loop : tie.decreases-loop
+abbrev decreases-loop : tie.decreases-loop-left
 decreases-loop b good₀ left₀ at₀ good left at = left
 
-loop-again : tie.Need-loop-preserved invariant-loop decreases-loop
+loop-again : tie.Need-loop-left-preserved invariant-loop decreases-loop
 loop-again c =
     let l = c.before.before in
-    let b = l.before.args.b.now in
-    (omega arith, l.loop.invariant.1, l.loop.invariant.2 ∙ rw (← byte-get b l.loop.at) (good_more flag l.loop.good l.loop.left l.loop.at b (omega arith)))
+    let b = l.args.b.now in
+    (omega arith, l.loop-left.invariant.1, l.loop-left.invariant.2 ∙ rw (← byte-get b l.loop-left.at) (good_more flag l.loop-left.good l.loop-left.left l.loop-left.at b (omega arith)))
 
 returns : tie.Need-returns invariant-loop decreases-loop
-returns c = sym (c.before.loop.invariant.2 ∙ good-end flag c.before.loop.good c.before.loop.left _ (omega arith))
+returns c = sym (c.loop-left.invariant.2 ∙ good-end flag c.loop-left.good c.loop-left.left _ (omega arith))
 
-pub are-streams-spec : {M : Type 1} → statement M
-are-streams-spec =
+pub are_streams_spec : {M : Type 1} → statement M
+are_streams_spec =
     tie.close
     (tie.spec
     invariant-loop

@@ -8,11 +8,11 @@ use Rattle.layout.proofs.is_slot.Tie as tie
 
 returns : tie.Need-returns
 returns c =
-    let a = c.before.before.args in
+    let a = c.args in
     sym (slot-good a.b.now a.at)
 
-pub is-slot-spec : {M : Type 1} → statement M
-is-slot-spec =
+pub is_slot_spec : {M : Type 1} → statement M
+is_slot_spec =
     tie.close
     (tie.spec
     (λ c. search rules)

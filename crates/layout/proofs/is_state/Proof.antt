@@ -6,14 +6,14 @@ use Rattle.layout.proofs.Places.{state-other, state-same}
 use Rattle.layout.proofs.is_state.Statement.{statement}
 use Rattle.layout.proofs.is_state.Tie as tie
 
-returns : tie.Need-returns
-returns c = sym (state-other _ c.if1.true)
+returns : tie.Need-returns-then-b-ne-STATE
+returns c = sym (state-other _ c.if-b-ne-STATE.true)
 
-returns-2 : tie.Need-returns-2
+returns-2 : tie.Need-returns
 returns-2 c =
     let k = c.before.before in
-    let b = k.before.before.args.b.now in
-    rw (c.before.are-slots.ensures, c.are-streams.ensures) (sym (state-same b k.if1.false))
+    let b = k.args.b.now in
+    rw (c.are_slots.ensures, c.are_streams.ensures) (sym (state-same b k.if-b-ne-STATE.false))
 
-pub is-state-spec : {M : Type 1} → statement M
-is-state-spec = tie.close (tie.spec returns (λ c κs. search rules) (λ c κs. search rules) returns-2)
+pub is_state_spec : {M : Type 1} → statement M
+is_state_spec = tie.close (tie.spec returns (λ c κs. search rules) (λ c κs. search rules) returns-2)

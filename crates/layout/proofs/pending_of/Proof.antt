@@ -11,17 +11,17 @@ use Rattle.layout.proofs.pending_of.Statement.{statement}
 use Rattle.layout.proofs.pending_of.Tie as tie
 
 -- the highest is a byte
-module _ (k : tie.After-shared-slice-known2) where
-  high : get_or k.before.before.args.b.now 3 0 < 256
-  high = omega (arith, k.shared-slice-known2.given 3)
+module _ (k : tie.After-shared_slice_known-2-1) where
+  high : get_or k.args.b.now 3 0 < 256
+  high = omega (arith, k.shared_slice_known-2-1.given 3)
 
 returns : tie.Need-returns
 returns c =
-    let b = c.before.before.before.args.b.now in
+    let b = c.args.b.now in
     ap (λ n. n + 65536 * get_or b 3 0) c.number_at.ensures ∙ sym (three-get b pending_at)
 
-pub pending-of-spec : {M : Type 1} → statement M
-pending-of-spec =
+pub pending_of_spec : {M : Type 1} → statement M
+pending_of_spec =
     tie.close
     (tie.spec
     (λ c. search rules)

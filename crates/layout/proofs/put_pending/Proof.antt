@@ -12,11 +12,11 @@ use Rattle.layout.proofs.put_pending.Tie as tie
 returns : tie.Need-returns
 returns c =
     let p = c.before.before in
-    let a = p.before.before.before.args in
-    ap (λ w. set w (pending_at + 2) (a.n / 65536 % 256)) p.put-number.ensures ∙ three-put a.b.now pending_at a.n
+    let a = p.args in
+    ap (λ w. set w (pending_at + 2) (a.n / 65536 % 256)) p.put_number.ensures ∙ three-put a.b.now pending_at a.n
 
-pub put-pending-spec : {M : Type 1} → statement M
-put-pending-spec =
+pub put_pending_spec : {M : Type 1} → statement M
+put_pending_spec =
     tie.close
     (tie.spec
     (λ c κs. search rules)

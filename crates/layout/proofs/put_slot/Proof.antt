@@ -11,42 +11,42 @@ use Rattle.layout.proofs.Places.{slot-put}
 use Rattle.layout.proofs.put_slot.Statement.{statement}
 use Rattle.layout.proofs.put_slot.Tie as tie
 
-slice-write-b-2 : tie.Need-slice-write-b-2
+slice-write-b-2 : tie.Need-bounds-b-at-2
 slice-write-b-2 c =
     let p = c.before.before.before.before in
-    let a = p.before.before.before.before.args in
-    let h = wrote-length a.b.now p.put-number.new.0 (a.at + 0) _ p.put-number.ensures in
-    omega (arith, length-set p.put-number.new.0 (a.at + 2) c.before.phase-code.result)
+    let a = p.args in
+    let h = wrote-length a.b.now p.put_number.new.b (a.at + 0) _ p.put_number.ensures in
+    omega (arith, length-set p.put_number.new.b (a.at + 2) c.phase_code.result)
 
-put-number-requires-2 : tie.Need-put-number-requires-2
+put-number-requires-2 : tie.Need-put_number-requires-2
 put-number-requires-2 c κs =
     let k = c.before.before in
     let p = k.before.before.before in
-    let a = p.before.before.before.before.args in
-    let h = wrote-length a.b.now p.put-number.new.0 (a.at + 0) _ p.put-number.ensures in
-    let l = two-set p.put-number.new.0 (a.at + 2) (a.at + 3) k.phase-code.result (bool_byte a.x.databit) in
+    let a = p.args in
+    let h = wrote-length a.b.now p.put_number.new.b (a.at + 0) _ p.put_number.ensures in
+    let l = two-set p.put_number.new.b (a.at + 2) (a.at + 3) k.phase_code.result (bool_byte a.x.databit) in
     omega arith
 
-same_length : tie.Need-same-length
+same_length : tie.Need-shape_of-b
 same_length c =
     let q = c.before.before in
     let k = q.before.before.before in
     let p = k.before.before.before in
-    let a = p.before.before.before.before.args in
-    wrote-length _ q.put-number2.new.0 (a.at + 4) _ q.put-number2.ensures
-    ∙ two-set p.put-number.new.0 (a.at + 2) (a.at + 3) k.phase-code.result (bool_byte a.x.databit)
-    ∙ wrote-length a.b.now p.put-number.new.0 (a.at + 0) _ p.put-number.ensures
+    let a = p.args in
+    wrote-length _ q.put_number-2.new.b (a.at + 4) _ q.put_number-2.ensures
+    ∙ two-set p.put_number.new.b (a.at + 2) (a.at + 3) k.phase_code.result (bool_byte a.x.databit)
+    ∙ wrote-length a.b.now p.put_number.new.b (a.at + 0) _ p.put_number.ensures
 
 returns : tie.Need-returns
 returns c =
     let q = c.before.before in
     let k = q.before.before.before in
     let p = k.before.before.before in
-    let a = p.before.before.before.before.args in
-    slot-put a.b.now _ _ a.at _ a.x p.put-number.ensures k.phase-code.ensures q.put-number2.ensures
+    let a = p.args in
+    slot-put a.b.now _ _ a.at _ a.x p.put_number.ensures k.phase_code.ensures q.put_number-2.ensures
 
-pub put-slot-spec : {M : Type 1} → statement M
-put-slot-spec =
+pub put_slot_spec : {M : Type 1} → statement M
+put_slot_spec =
     tie.close
     (tie.spec
     (λ c. search rules)

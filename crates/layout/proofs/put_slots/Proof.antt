@@ -12,33 +12,33 @@ use Rattle.fields.proofs.Places.{wrote-length}
 use Rattle.layout.proofs.put_slots.Statement.{statement}
 use Rattle.layout.proofs.put_slots.Tie as tie
 
-abbrev invariant-loop : tie.invariant-loop
+abbrev invariant-loop : tie.invariant-loop-i
 invariant-loop b₀ slots i₀ b i =
     (i ≤ 8) × (streams_at ≤ length b₀) × (length b ≡ length b₀) × (length slots ≡ 8) × PutTo slot b₀ slots_at slots i b
 
-abbrev decreases-loop : tie.decreases-loop
+abbrev decreases-loop : tie.decreases-loop-i
 decreases-loop b₀ slots i₀ b i = 8 - i
 
-loop-holds : tie.Need-loop-init invariant-loop decreases-loop
-loop-holds c = (search rules, search rules, refl, search rules, put-none slot c.before.args.b.now slots_at c.before.args.t2)
+loop-holds : tie.Need-loop-i-init invariant-loop decreases-loop
+loop-holds c = (search rules, search rules, refl, search rules, put-none slot c.args.b.now slots_at c.args.slots)
 
-loop-again : tie.Need-loop-preserved invariant-loop decreases-loop
+loop-again : tie.Need-loop-i-preserved invariant-loop decreases-loop
 loop-again c =
     let p = c.before.before in
     let l = p.before.before.before.before in
-    let a = l.before.before.args in
-    let i = l.loop.i in
-    let e = put-more slot a.b.now slots_at a.t2 l.loop.b free_slot i (omega arith) refl l.loop.invariant.4 in
-    rw p.put-slot.ensures (omega arith, l.loop.invariant.1, wrote-length a.b.now _ slots_at _ e.is, l.loop.invariant.3, e)
+    let a = l.args in
+    let i = l.loop-i.i in
+    let e = put-more slot a.b.now slots_at a.slots l.loop-i.b free_slot i (omega arith) refl l.loop-i.invariant.4 in
+    rw p.put_slot.ensures (omega arith, l.loop-i.invariant.1, wrote-length a.b.now _ slots_at _ e.is, l.loop-i.invariant.3, e)
 
 returns : tie.Need-returns invariant-loop decreases-loop
 returns c =
     let l = c.before in
-    let a = l.before.before.args in
-    (put-all slot a.b.now slots_at a.t2 _ l.loop.i (omega arith) l.loop.invariant.4, l.loop.invariant.3)
+    let a = l.args in
+    (put-all slot a.b.now slots_at a.slots _ l.loop-i.i (omega arith) l.loop-i.invariant.4, l.loop-i.invariant.3)
 
-pub put-slots-spec : {M : Type 1} → statement M
-put-slots-spec =
+pub put_slots_spec : {M : Type 1} → statement M
+put_slots_spec =
     tie.close
     (tie.spec
     invariant-loop
@@ -52,5 +52,5 @@ put-slots-spec =
     (λ c. omega arith)
     (λ c. omega arith)
     loop-again
-    (λ c. c.before.loop.invariant.2)
+    (λ c. c.loop-i.invariant.2)
     returns)

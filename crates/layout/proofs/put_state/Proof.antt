@@ -6,15 +6,15 @@ use Rattle.layout.specs.State.{encode, state_into}
 use Rattle.layout.proofs.put_state.Statement.{statement}
 use Rattle.layout.proofs.put_state.Tie as tie
 
-returns : tie.Need-returns
+returns : tie.Need-returns-then-b-ne-STATE
 unfolding state_into
-returns c = rw (ne_eqb _ _ c.if1.true)
+returns c = rw (ne_eqb _ _ c.if-b-ne-STATE.true)
 
-returns-2 : tie.Need-returns-2
+returns-2 : tie.Need-returns
 unfolding state_into encode
 returns-2 c =
     let w = c.before.before in
-    rw (eq-eqb _ _ w.before.before.if1.false, w.write-state.ensures)
+    rw (eq-eqb _ _ w.if-b-ne-STATE.false, w.write_state.ensures)
 
-pub put-state-spec : {M : Type 1} → statement M
-put-state-spec = tie.close (tie.spec returns (λ c κs. search rules) (λ c. search rules) returns-2)
+pub put_state_spec : {M : Type 1} → statement M
+put_state_spec = tie.close (tie.spec returns (λ c κs. search rules) (λ c. search rules) returns-2)

@@ -12,31 +12,31 @@ use Rattle.layout.proofs.Places.{stream-put}
 use Rattle.layout.proofs.put_streams.Statement.{statement}
 use Rattle.layout.proofs.put_streams.Tie as tie
 
-abbrev invariant-loop : tie.invariant-loop
+abbrev invariant-loop : tie.invariant-loop-i
 invariant-loop b₀ streams i₀ b i =
     (i ≤ 128) × (state_length ≤ length b₀) × (length b ≡ length b₀) × (length streams ≡ 128) × PutTo flag b₀ streams_at streams i b
 
-abbrev decreases-loop : tie.decreases-loop
+abbrev decreases-loop : tie.decreases-loop-i
 decreases-loop b₀ streams i₀ b i = 128 - i
 
-loop-holds : tie.Need-loop-init invariant-loop decreases-loop
-loop-holds c = (search rules, search rules, refl, search rules, put-none flag c.args.b.now streams_at c.args.t2)
+loop-holds : tie.Need-loop-i-init invariant-loop decreases-loop
+loop-holds c = (search rules, search rules, refl, search rules, put-none flag c.args.b.now streams_at c.args.streams)
 
-loop-again : tie.Need-loop-preserved invariant-loop decreases-loop
+loop-again : tie.Need-loop-i-preserved invariant-loop decreases-loop
 loop-again c =
     let l = c.before in
-    let a = l.before.args in
-    let i = l.loop.i in
-    (omega arith, l.loop.invariant.1, length-set l.loop.b (streams_at + i) _ ∙ l.loop.invariant.2, l.loop.invariant.3, stream-put a.b.now l.loop.b a.t2 i (omega arith) l.loop.invariant.4)
+    let a = l.args in
+    let i = l.loop-i.i in
+    (omega arith, l.loop-i.invariant.1, length-set l.loop-i.b (streams_at + i) _ ∙ l.loop-i.invariant.2, l.loop-i.invariant.3, stream-put a.b.now l.loop-i.b a.streams i (omega arith) l.loop-i.invariant.4)
 
 returns : tie.Need-returns invariant-loop decreases-loop
 returns c =
     let l = c.before in
-    let a = l.before.args in
-    (put-all flag a.b.now streams_at a.t2 _ l.loop.i (omega arith) l.loop.invariant.4, l.loop.invariant.3)
+    let a = l.args in
+    (put-all flag a.b.now streams_at a.streams _ l.loop-i.i (omega arith) l.loop-i.invariant.4, l.loop-i.invariant.3)
 
-pub put-streams-spec : {M : Type 1} → statement M
-put-streams-spec =
+pub put_streams_spec : {M : Type 1} → statement M
+put_streams_spec =
     tie.close
     (tie.spec
     invariant-loop
@@ -49,5 +49,5 @@ put-streams-spec =
     (λ c. omega arith)
     (λ c. omega arith)
     loop-again
-    (λ c. c.before.loop.invariant.2)
+    (λ c. c.loop-i.invariant.2)
     returns)

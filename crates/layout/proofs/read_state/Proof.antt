@@ -9,11 +9,11 @@ returns : tie.Need-returns
 returns c =
     let n = c.before in
     let k = n.before.before in
-    let b = k.before.before.before.args.b.now in
-    state_made b _ _ _ n.pending-of.ensures k.before.slots-of.ensures k.streams-of.ensures
+    let b = k.args.b.now in
+    state_made b _ _ _ n.pending_of.ensures k.slots_of-slots.ensures k.streams_of-streams.ensures
 
-pub read-state-spec : {M : Type 1} → statement M
-read-state-spec =
+pub read_state_spec : {M : Type 1} → statement M
+read_state_spec =
     tie.close
     (tie.spec
     (λ c κs. search rules)

@@ -9,11 +9,11 @@ returns : tie.Need-returns
 returns c =
     let p = c.before.before in
     let i = p.before.before in
-    let a = i.before.before.args in
-    slot_made a.b.now a.at _ _ _ i.number_at.ensures p.phase-of.ensures c.number-at2.ensures
+    let a = i.args in
+    slot_made a.b.now a.at _ _ _ i.number_at.ensures p.phase_of.ensures c.number_at-2.ensures
 
-pub slot-at-spec : {M : Type 1} → statement M
-slot-at-spec =
+pub slot_at_spec : {M : Type 1} → statement M
+slot_at_spec =
     tie.close
     (tie.spec
     (λ c. search rules)

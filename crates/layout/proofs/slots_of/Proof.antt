@@ -12,33 +12,33 @@ use Rattle.fields.proofs.Loops.{filled_more, filled-all, length-get_all, get_all
 use Rattle.layout.proofs.slots_of.Statement.{statement}
 use Rattle.layout.proofs.slots_of.Tie as tie
 
-abbrev invariant-loop : tie.invariant-loop
+abbrev invariant-loop : tie.invariant-loop-i
 invariant-loop b slots₀ i₀ slots i = (i ≤ 8) × (streams_at ≤ length b) × (length slots ≡ 8) × (take i slots ≡ take i (get_all slot 8 (drop slots_at b)))
 
-abbrev decreases-loop : tie.decreases-loop
+abbrev decreases-loop : tie.decreases-loop-i
 decreases-loop b slots₀ i₀ slots i = 8 - i
 
-loop-again : tie.Need-loop-preserved invariant-loop decreases-loop
+loop-again : tie.Need-loop-i-preserved invariant-loop decreases-loop
 loop-again c =
     let l = c.before.before in
-    let b = l.before.before.before.args.b.now in
+    let b = l.args.b.now in
     let g = get_all slot 8 (drop slots_at b) in
-    let i = l.loop.i in (
+    let i = l.loop-i.i in (
       omega arith,
-      l.loop.invariant.1,
-      length-set l.loop.slots i _ ∙ l.loop.invariant.2,
-      filled_more free_slot l.loop.slots g i _ l.loop.invariant.3 (omega arith) (omega (arith, length-get_all slot 8 (drop slots_at b)))
+      l.loop-i.invariant.1,
+      length-set l.loop-i.slots i _ ∙ l.loop-i.invariant.2,
+      filled_more free_slot l.loop-i.slots g i _ l.loop-i.invariant.3 (omega arith) (omega (arith, length-get_all slot 8 (drop slots_at b)))
           (c.slot_at.ensures ∙ sym (get_all-at slot 8 i slots_at b free_slot (omega arith))),
     )
 
 returns : tie.Need-returns invariant-loop decreases-loop
 returns c =
     let l = c.before in
-    let b = l.before.before.before.args.b.now in
-    filled-all free_slot l.loop.slots (get_all slot 8 (drop slots_at b)) l.loop.i l.loop.invariant.3 (omega arith) (omega (arith, length-get_all slot 8 (drop slots_at b)))
+    let b = l.args.b.now in
+    filled-all free_slot l.loop-i.slots (get_all slot 8 (drop slots_at b)) l.loop-i.i l.loop-i.invariant.3 (omega arith) (omega (arith, length-get_all slot 8 (drop slots_at b)))
 
-pub slots-of-spec : {M : Type 1} → statement M
-slots-of-spec =
+pub slots_of_spec : {M : Type 1} → statement M
+slots_of_spec =
     tie.close
     (tie.spec
     invariant-loop

@@ -6,13 +6,13 @@ use Rattle.layout.specs.State.{state_of, state_from}
 use Rattle.layout.proofs.state_of.Statement.{statement}
 use Rattle.layout.proofs.state_of.Tie as tie
 
-returns : tie.Need-returns
+returns : tie.Need-returns-then-b-ne-STATE
 unfolding state_from
-returns c = rw (ne_eqb _ _ c.before.if1.true, c.fresh.ensures)
+returns c = rw (ne_eqb _ _ c.if-b-ne-STATE.true, c.fresh.ensures)
 
-returns-2 : tie.Need-returns-2
+returns-2 : tie.Need-returns
 unfolding state_from state_of
-returns-2 c = rw (eq-eqb _ _ c.before.if1.false, c.read-state.ensures)
+returns-2 c = rw (eq-eqb _ _ c.if-b-ne-STATE.false, c.read_state.ensures)
 
-pub state-of-spec : {M : Type 1} → statement M
-state-of-spec = tie.close (tie.spec (λ c κs. search rules) returns (λ c κs. search rules) returns-2)
+pub state_of_spec : {M : Type 1} → statement M
+state_of_spec = tie.close (tie.spec (λ c κs. search rules) returns (λ c κs. search rules) returns-2)

@@ -13,33 +13,33 @@ use Rattle.layout.proofs.Places.{stream_at}
 use Rattle.layout.proofs.streams_of.Statement.{statement}
 use Rattle.layout.proofs.streams_of.Tie as tie
 
-abbrev invariant-loop : tie.invariant-loop
+abbrev invariant-loop : tie.invariant-loop-i
 invariant-loop b streams₀ i₀ streams i =
     (i ≤ 128) × (state_length ≤ length b) × (length streams ≡ 128) × (take i streams ≡ take i (get_all flag 128 (drop streams_at b)))
 
-abbrev decreases-loop : tie.decreases-loop
+abbrev decreases-loop : tie.decreases-loop-i
 decreases-loop b streams₀ i₀ streams i = 128 - i
 
-loop-again : tie.Need-loop-preserved invariant-loop decreases-loop
+loop-again : tie.Need-loop-i-preserved invariant-loop decreases-loop
 loop-again c =
     let l = c.before.before in
-    let b = l.before.args.b.now in
+    let b = l.args.b.now in
     let g = get_all flag 128 (drop streams_at b) in
-    let i = l.loop.i in (
+    let i = l.loop-i.i in (
       omega arith,
-      l.loop.invariant.1,
-      length-set l.loop.streams i _ ∙ l.loop.invariant.2,
-      filled_more false l.loop.streams g i _ l.loop.invariant.3 (omega arith) (omega (arith, length-get_all flag 128 (drop streams_at b))) (stream_at b i (omega arith)),
+      l.loop-i.invariant.1,
+      length-set l.loop-i.streams i _ ∙ l.loop-i.invariant.2,
+      filled_more false l.loop-i.streams g i _ l.loop-i.invariant.3 (omega arith) (omega (arith, length-get_all flag 128 (drop streams_at b))) (stream_at b i (omega arith)),
     )
 
 returns : tie.Need-returns invariant-loop decreases-loop
 returns c =
     let l = c.before in
-    let b = l.before.args.b.now in
-    filled-all false l.loop.streams (get_all flag 128 (drop streams_at b)) l.loop.i l.loop.invariant.3 (omega arith) (omega (arith, length-get_all flag 128 (drop streams_at b)))
+    let b = l.args.b.now in
+    filled-all false l.loop-i.streams (get_all flag 128 (drop streams_at b)) l.loop-i.i l.loop-i.invariant.3 (omega arith) (omega (arith, length-get_all flag 128 (drop streams_at b)))
 
-pub streams-of-spec : {M : Type 1} → statement M
-streams-of-spec =
+pub streams_of_spec : {M : Type 1} → statement M
+streams_of_spec =
     tie.close
     (tie.spec
     invariant-loop

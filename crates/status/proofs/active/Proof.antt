@@ -7,13 +7,13 @@ use Rattle.status.specs.Row.{active_of}
 use Rattle.status.proofs.active.Statement.{statement}
 use Rattle.status.proofs.active.Tie as tie
 
-returns : tie.Need-returns
+returns : tie.Need-returns-then-not-is_plain
 unfolding active_of
-returns c = rw (sym c.before.is_plain.ensures ∙ not-true _ c.if1.true)
+returns c = rw (sym c.is_plain.ensures ∙ not-true _ c.if-not-is_plain.true-raw)
 
-returns-2 : tie.Need-returns-2
+returns-2 : tie.Need-returns
 unfolding active_of
-returns-2 c = rw (sym c.before.is_plain.ensures ∙ not-false _ c.if1.false)
+returns-2 c = rw (sym c.is_plain.ensures ∙ not-false _ c.if-not-is_plain.false-raw)
 
-pub active-spec : {M : Type 1} → statement M
-active-spec = tie.close (tie.spec (λ c κs. search rules) returns returns-2)
+pub active_spec : {M : Type 1} → statement M
+active_spec = tie.close (tie.spec (λ c κs. search rules) returns returns-2)

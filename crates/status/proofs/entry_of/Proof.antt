@@ -7,7 +7,7 @@ use Rattle.status.proofs.entry_of.Statement.{statement}
 use Rattle.status.proofs.entry_of.Tie as tie
 
 returns : tie.Need-returns
-returns c = ap entry_of c.slot_at.ensures
+returns c = ap entry_of c.slot_at-x.ensures
 
-pub entry-of-spec : {M : Type 1} → statement M
-entry-of-spec = tie.close (tie.spec (λ c κs. search rules) returns)
+pub entry_of_spec : {M : Type 1} → statement M
+entry_of_spec = tie.close (tie.spec (λ c κs. search rules) returns)

@@ -7,7 +7,7 @@ use Rattle.status.proofs.id_at.Statement.{statement}
 use Rattle.status.proofs.id_at.Tie as tie
 
 returns : tie.Need-returns
-returns c = ap (λ (x : Slot). x.id) c.slot_at.ensures
+returns c = ap (λ (x : Slot). x.id) c.slot_at-x.ensures
 
-pub id-at-spec : {M : Type 1} → statement M
-id-at-spec = tie.close (tie.spec (λ c κs. search rules) returns)
+pub id_at_spec : {M : Type 1} → statement M
+id_at_spec = tie.close (tie.spec (λ c κs. search rules) returns)

@@ -8,7 +8,7 @@ use Rattle.status.proofs.phase_at.Statement.{statement}
 use Rattle.status.proofs.phase_at.Tie as tie
 
 returns : tie.Need-returns
-returns c = c.phase-code.ensures ∙ ap (λ (x : Slot). code x.phase) c.before.slot_at.ensures
+returns c = c.phase_code.ensures ∙ ap (λ (x : Slot). code x.phase) c.slot_at-x.ensures
 
-pub phase-at-spec : {M : Type 1} → statement M
-phase-at-spec = tie.close (tie.spec (λ c κs. search rules) (λ c κs. search rules) returns)
+pub phase_at_spec : {M : Type 1} → statement M
+phase_at_spec = tie.close (tie.spec (λ c κs. search rules) (λ c κs. search rules) returns)

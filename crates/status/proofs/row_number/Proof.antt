@@ -7,17 +7,17 @@ use Rattle.status.specs.Row.{row_number}
 use Rattle.status.proofs.row_number.Statement.{statement}
 use Rattle.status.proofs.row_number.Tie as tie
 
-returns : tie.Need-returns
+returns : tie.Need-returns-then-not-is_plain
 unfolding row_number
-returns c = rw (sym c.before.is_plain.ensures ∙ not-true _ c.if1.true)
+returns c = rw (sym c.is_plain.ensures ∙ not-true _ c.if-not-is_plain.true-raw)
 
-returns-2 : tie.Need-returns-2
+returns-2 : tie.Need-returns-then-places-lt8
 unfolding row_number
-returns-2 c = rw (sym c.before.before.is_plain.ensures ∙ not-false _ c.before.if1.false, lt-ltb _ _ c.if2.true)
+returns-2 c = rw (sym c.is_plain.ensures ∙ not-false _ c.if-not-is_plain.false-raw, lt-ltb _ _ c.if-places-lt8.true)
 
-returns-3 : tie.Need-returns-3
+returns-3 : tie.Need-returns
 unfolding row_number
-returns-3 c = rw (sym c.before.before.is_plain.ensures ∙ not-false _ c.before.if1.false, le-ltb _ _ c.if2.false)
+returns-3 c = rw (sym c.is_plain.ensures ∙ not-false _ c.if-not-is_plain.false-raw, le-ltb _ _ c.if-places-lt8.false)
 
-pub row-number-spec : {M : Type 1} → statement M
-row-number-spec = tie.close (tie.spec (λ c κs. search rules) returns returns-2 returns-3)
+pub row_number_spec : {M : Type 1} → statement M
+row_number_spec = tie.close (tie.spec (λ c κs. search rules) returns returns-2 returns-3)

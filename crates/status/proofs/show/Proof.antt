@@ -338,11 +338,11 @@ module _ {M : Type 1} {𝓤 : Ura M} (𝓛 : Logic 𝓤) (mem : Memory → SProp
   show-meets = walk_Meets 𝓛 show.ended stayed (Goes-dropped 𝓛 1 (plain (λ _. S.the_row)) yes (λ κs x f. refl), (Goes-slice 𝓛 1 0 tt (plain (λ _. E.the_row)), tt))
       (show.clauses 𝓛 mem run) (WpFn 𝓤 H 𝓣.C 𝓣.Λ code.function) (WpFn-mono 𝓤 H 𝓛.laws 𝓣 code.function) show-walks
 
-pub show-spec : {M : Type 1} → stated.statement M
+pub show_spec : {M : Type 1} → stated.statement M
 unfolding code.routine tables_of
-show-spec 𝓤 𝓛 𝓜 𝓡 =
+show_spec 𝓤 𝓛 𝓜 𝓡 =
     entered 𝓤 𝓛.H (triple_of 𝓛 show.signature (show.spec 𝓛 𝓜.mem 𝓡.run))
     (tables 𝓤 𝓛.H 𝓜 𝓡 code.env).C (tables 𝓤 𝓛.H 𝓜 𝓡 code.env).Λ #status·show code.function (code.unfolded 𝓤 𝓛.H 𝓜 𝓡)
     (show-meets 𝓛 𝓜.mem 𝓡.run (tables_of 𝓤 𝓛.H 𝓜 (tables 𝓤 𝓛.H 𝓜 𝓡 code.env))
-    (cited 𝓤 𝓛.H (Number 𝓛 𝓜.mem 𝓡.run) 𝓜 𝓡 code.env #status·row-number number-def.routine code.calls-status::row-number (number-thm.met 𝓤 𝓛 𝓜 𝓡))
-    (cited 𝓤 𝓛.H (EntryOf 𝓛 𝓜.mem 𝓡.run) 𝓜 𝓡 code.env #status·entry-of entry-def.routine code.calls-status::entry-of (entry-thm.met 𝓤 𝓛 𝓜 𝓡)))
+    (cited 𝓤 𝓛.H (Number 𝓛 𝓜.mem 𝓡.run) 𝓜 𝓡 code.env #status·row-number number-def.routine code.calls_status::row-number (number-thm.met 𝓤 𝓛 𝓜 𝓡))
+    (cited 𝓤 𝓛.H (EntryOf 𝓛 𝓜.mem 𝓡.run) 𝓜 𝓡 code.env #status·entry-of entry-def.routine code.calls_status::entry-of (entry-thm.met 𝓤 𝓛 𝓜 𝓡)))

@@ -7,10 +7,10 @@ use Rattle.channel.proofs.Channel.accepted.Tie as tie
 returns : tie.Need-returns
 returns c =
     let e = c.before in
-    rw (c.answer.ensures, e.before.with-slot.ensures, e.ends.ensures)
+    rw (c.answer.ensures, e.with_slot-next.ensures, e.ends.ensures)
 
-pub accepted-spec : {M : Type 1} → statement M
-accepted-spec =
+pub accepted_spec : {M : Type 1} → statement M
+accepted_spec =
     tie.close
     (tie.spec
     (λ c. search rules)

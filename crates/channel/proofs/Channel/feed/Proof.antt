@@ -20,16 +20,16 @@ use Rattle.channel.proofs.LoopLaws.{feeds-all}
 use Rattle.channel.proofs.Channel.feed.Statement.{statement}
 use Rattle.channel.proofs.Channel.feed.Tie as tie
 
-returns : tie.Need-returns
+returns : tie.Need-returns-then-work-lt-WORK_AREA
 unfolding unchanged
 returns c =
-    let a = c.before.before.before.before.before.args in
-    rw c.answer.ensures (sym (feed-small channel (receiver a.self a.work.now) a.input.now a.out.now (lt-leb work_area (length a.work.now) c.before.if1.true)))
+    let a = c.args in
+    rw c.answer.ensures (sym (feed-small channel (receiver a.self a.work.now) a.input.now a.out.now (lt-leb work_area (length a.work.now) c.if-work-lt-WORK_AREA.true)))
 
 -- the work area is long enough, and the state is looked at
-module _ (i : tie.After-is-shaped) where
+module _ (i : tie.After-is_shaped) where
   abbrev start : tie.Start
-  start = i.before.before.before.before.before.before
+  start = i.before.before.before.before.before
 
   abbrev r : Receiver
   r = receiver start.args.self start.args.work.now
@@ -41,56 +41,56 @@ module _ (i : tie.After-is-shaped) where
   out = start.args.out.now
 
   wide : work_area ≤ length r.work
-  wide = i.before.before.if1.left
+  wide = i.if-work-lt-WORK_AREA.false
 
   roomy : leb work_area (length r.work) ≡ true
   roomy = le-leb work_area (length r.work) wide
 
-returns-2 : tie.Need-returns-2
+returns-2 : tie.Need-returns-then-not-is_shaped
 unfolding unchanged
 returns-2 c =
     let i = c.before.before in
-    rw c.answer2.ensures (sym (feed-unshaped channel (r i) (input i) (out i) (roomy i) (sym i.is-shaped.ensures ∙ not-true _ c.before.if2.true)))
+    rw c.answer-then-not-is_shaped.ensures (sym (feed-unshaped channel (r i) (input i) (out i) (roomy i) (sym i.is_shaped.ensures ∙ not-true _ c.if-not-is_shaped.true-raw)))
 
 -- and it is in shape
-module _ (e : tie.Else2) where
+module _ (e : tie.Else-not-is_shaped) where
   shaped : shape (r e.before) ≡ true
-  shaped = sym e.before.is-shaped.ensures ∙ not-false _ e.if2.false
+  shaped = sym e.is_shaped.ensures ∙ not-false _ e.if-not-is_shaped.false-raw
 
   ok : Ok (r e.before)
   ok =
       let s = start e.before in
-      ok-start (r e.before) (roomy e.before) (eight s.args.self _ s.good.0) shaped
+      ok-start (r e.before) (roomy e.before) (eight s.args.self _ s.well_formed.0) shaped
 
-returns-3 : tie.Need-returns-3
+returns-3 : tie.Need-returns-then-self-ne0
 unfolding unchanged
 returns-3 c =
     let e = c.before.before.before in
     let i = e.before in
-    rw c.answer3.ensures (sym (feed-dead channel (r i) (input i) (out i) (roomy i) (shaped e) (r i).state.dead refl c.before.if3.true))
+    rw c.answer-then-self-ne0.ensures (sym (feed-dead channel (r i) (input i) (out i) (roomy i) (shaped e) (r i).state.dead refl c.if-self-ne0.true))
 
-returns-4 : tie.Need-returns-4
+returns-4 : tie.Need-returns-then-out-lt-LONGEST_RECORD
 unfolding unchanged
 returns-4 c =
     let e = c.before.before.before.before in
     let i = e.before in
-    rw c.answer4.ensures (sym (feed-short channel (r i) (input i) (out i) (roomy i) (shaped e) c.before.before.if3.false (lt-ltb (length (out i)) longest_record c.before.if4.true)))
+    rw c.answer-then-out-lt-LONGEST_RECORD.ensures (sym (feed-short channel (r i) (input i) (out i) (roomy i) (shaped e) c.if-self-ne0.false (lt-ltb (length (out i)) longest_record c.if-out-lt-LONGEST_RECORD.true)))
 
 read-requires : tie.Need-read-requires
 read-requires c κs =
     let e = c.before.before.before.before.before in
-    (wide e.before, c.before.before.before.if3.false, shaped e)
+    (wide e.before, c.if-self-ne0.false, shaped e)
 
-returns-5 : tie.Need-returns-5
+returns-5 : tie.Need-returns
 returns-5 c =
     let d = c.before.before.before.before in
     let e = d.before.before.before.before.before.before in
     let i = e.before in
     d.read.ensures ∙ feeds-all (r i) (input i) (out i) (ok e)
-    ∙ sym (feed-reads channel (r i) (input i) (out i) (roomy i) (shaped e) d.before.before.before.before.if3.false (le-ltb (length (out i)) longest_record d.before.before.before.if4.false))
+    ∙ sym (feed-reads channel (r i) (input i) (out i) (roomy i) (shaped e) d.if-self-ne0.false (le-ltb (length (out i)) longest_record d.if-out-lt-LONGEST_RECORD.false))
 
-pub feed-spec : {M : Type 1} → statement M
-feed-spec =
+pub feed_spec : {M : Type 1} → statement M
+feed_spec =
     tie.close
     (tie.spec
     (λ c κs. search rules)

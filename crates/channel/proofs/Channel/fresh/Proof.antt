@@ -7,7 +7,7 @@ use Rattle.channel.proofs.Channel.fresh.Tie as tie
 
 returns : tie.Need-returns
 unfolding fresh_state
-returns c = rw c.free.ensures
+returns c = rw c.free-free.ensures
 
-pub fresh-spec : {M : Type 1} → statement M
-fresh-spec = tie.close (tie.spec (λ c κs. search rules) returns)
+pub fresh_spec : {M : Type 1} → statement M
+fresh_spec = tie.close (tie.spec (λ c κs. search rules) returns)

@@ -10,25 +10,25 @@ use Rattle.channel.proofs.Channel.is_plain.Tie as tie
 use native.Mathlib.Omega.{arith}
 use Prim.Native.Nat.{◌<◌}
 
-returns : tie.Need-returns
+returns : tie.Need-returns-then-self-ge-FRAME_AREA
 unfolding plain_shape
-returns c = rw (le-ltb _ frame_area c.if1.true)
+returns c = rw (le-ltb _ frame_area c.if-self-ge-FRAME_AREA.true)
 
-returns-2 : tie.Need-returns-2
+returns-2 : tie.Need-returns-then-not-slots_fit
 unfolding plain_shape
 returns-2 c =
     let i = c.before.before.before in
-    let h : i.before.before.args.self.pending < frame_area = omega arith in
-    rw (lt-ltb _ frame_area h, sym c.before.slots-fit.ensures ∙ not-true _ c.if2.true)
+    let h : i.args.self.pending < frame_area = omega arith in
+    rw (lt-ltb _ frame_area h, sym c.slots_fit.ensures ∙ not-true _ c.if-not-slots_fit.true-raw)
 
-returns-3 : tie.Need-returns-3
+returns-3 : tie.Need-returns
 unfolding plain_shape
 returns-3 c =
     let f = c.before.before in
     let i = f.before.before in
-    let h : i.before.before.args.self.pending < frame_area = omega arith in
-    rw (lt-ltb _ frame_area h, sym f.slots-fit.ensures ∙ not-false _ c.before.if2.false) c.dead-fits.ensures
+    let h : i.args.self.pending < frame_area = omega arith in
+    rw (lt-ltb _ frame_area h, sym f.slots_fit.ensures ∙ not-false _ c.if-not-slots_fit.false-raw) c.dead_fits.ensures
 
-pub is-plain-spec : {M : Type 1} → statement M
-is-plain-spec =
+pub is_plain_spec : {M : Type 1} → statement M
+is_plain_spec =
     tie.close (tie.spec returns (λ c κs. search rules) returns-2 (λ c κs. search rules) returns-3)

@@ -11,35 +11,35 @@ use Rattle.channel.specs.Channel.{plain_shape, held_shape, shape}
 use Rattle.channel.proofs.Channel.is_shaped.Statement.{statement}
 use Rattle.channel.proofs.Channel.is_shaped.Tie as tie
 
-returns : tie.Need-returns
+returns : tie.Need-returns-then-not-is_plain
 unfolding shape
-returns c = rw (sym c.before.is_plain.ensures ∙ not-true _ c.if1.true)
+returns c = rw (sym c.is_plain.ensures ∙ not-true _ c.if-not-is_plain.true-raw)
 
-plain : (i : tie.Else1) → plain_shape i.before.before.before.args.self ≡ true
-plain i = sym i.before.is_plain.ensures ∙ not-false _ i.if1.false
+plain : (i : tie.Else-not-is_plain) → plain_shape i.args.self ≡ true
+plain i = sym i.is_plain.ensures ∙ not-false _ i.if-not-is_plain.false-raw
 
-returns-2 : tie.Need-returns-2
+returns-2 : tie.Need-returns-then-self-lt8
 unfolding shape held_shape
-returns-2 c = rw (plain c.before.before, lt-ltb _ 8 c.if2.true)
+returns-2 c = rw (plain c.before.before, lt-ltb _ 8 c.if-self-lt8.true)
 
-returns-3 : tie.Need-returns-3
+returns-3 : tie.Need-returns-then-n-gt-MAX_PAYLOAD
 unfolding shape held_shape
 returns-3 c =
     let n = c.before in
     let i = n.before.before.before in
-    let h : max_payload < length_of i.before.before.before.args.work.now = rw n.payload-length.ensures at c.if3.true in
-    rw (plain i, le-ltb _ 8 n.before.if2.false, lt-leb _ max_payload h)
+    let h : max_payload < length_of i.args.work.now = rw n.payload_length-n.ensures at c.if-n-gt-MAX_PAYLOAD.true in
+    rw (plain i, le-ltb _ 8 n.if-self-lt8.false, lt-leb _ max_payload h)
 
-returns-4 : tie.Need-returns-4
+returns-4 : tie.Need-returns
 unfolding shape held_shape
 returns-4 c =
     let n = c.before.before in
     let i = n.before.before.before in
-    let h : length_of i.before.before.before.args.work.now ≤ max_payload = rw n.payload-length.ensures at c.before.if3.false in
-    rw (plain i, le-ltb _ 8 n.before.if2.false, le-leb _ max_payload h, n.payload-length.ensures)
+    let h : length_of i.args.work.now ≤ max_payload = rw n.payload_length-n.ensures at c.if-n-gt-MAX_PAYLOAD.false in
+    rw (plain i, le-ltb _ 8 n.if-self-lt8.false, le-leb _ max_payload h, n.payload_length-n.ensures)
 
-pub is-shaped-spec : {M : Type 1} → statement M
-is-shaped-spec =
+pub is_shaped_spec : {M : Type 1} → statement M
+is_shaped_spec =
     tie.close
     (tie.spec
     (λ c κs. search rules)

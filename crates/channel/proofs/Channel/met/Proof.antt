@@ -9,5 +9,5 @@ returns : tie.Need-returns
 unfolding stream_open
 returns c = c.look_up.ensures
 
-pub met-spec : {M : Type 1} → statement M
-met-spec = tie.close (tie.spec (λ c. search rules) (λ c. search rules) (λ c κs. search rules) returns)
+pub met_spec : {M : Type 1} → statement M
+met_spec = tie.close (tie.spec (λ c. search rules) (λ c. search rules) (λ c κs. search rules) returns)

@@ -89,10 +89,10 @@ module _ (b : tie.Start) where
   small = omega (arith, ap (λ (h : Header). h.length) b.requires.1.header)
 
   has_eight : length b.args.self.slots ≡ slot_count
-  has_eight = eight b.args.self _ b.good.0
+  has_eight = eight b.args.self _ b.well_formed.0
 
   right-count : CountRight b.args.self
-  right-count = b.pre.1.frame.active
+  right-count = b.requires.1.frame.active
 
 accepted-requires : tie.Need-accepted-requires
 accepted-requires c κs =
@@ -100,35 +100,35 @@ accepted-requires c κs =
     let l = i.before.before.before in
     right-count l.before.before.before.before.before
 
-accepted-requires-2 : tie.Need-accepted-requires-2
+accepted-requires-2 : tie.Need-accepted-requires-then-h-eq2
 accepted-requires-2 c κs =
     let d = c.before.before.before.before.before.before.before in
     let i = d.before.before.before.before.before in
     let l = i.before.before.before in
     right-count l.before.before.before.before.before
 
-accepted-requires-3 : tie.Need-accepted-requires-3
+accepted-requires-3 : tie.Need-accepted-requires-2
 accepted-requires-3 c κs =
     let l = c.before.before.before.before in
     right-count l.before.before.before.before.before
 
-returns : tie.Need-returns
+returns : tie.Need-returns-then-n-ne0
 returns c =
     let l = c.before.before in
     let b = l.before.before.before.before.before in
-    refuses b.requires.0 b.requires.1 (has_eight b) _ _ _ _ l.last-number.ensures c.before.if1.true c.refused.ensures
+    refuses b.requires.0 b.requires.1 (has_eight b) _ _ _ _ l.last_number-n.ensures c.if-n-ne0.true c.refused.ensures
 
-returns-2 : tie.Need-returns-2
+returns-2 : tie.Need-returns-then-not-is_phase
 returns-2 c =
     let k = c.before.before in
     let x = k.before.before in
     let i = x.before.before in
     let l = i.before.before.before in
     let b = l.before.before.before.before.before in
-    takes-drain b.requires.0 b.requires.1 (has_eight b) _ _ _ _ _ _ _ l.last-number.ensures i.before.before.if1.false i.if2.true x.slot_at.ensures
-    k.before.data-slot.ensures k.is-phase.ensures (not-true _ c.before.if3.true) c.accepted.ensures
+    takes-drain b.requires.0 b.requires.1 (has_eight b) _ _ _ _ _ _ _ l.last_number-n.ensures i.if-n-ne0.false i.if-h-eq2.true x.slot_at-x.ensures
+    k.data_slot-y.ensures k.is_phase.ensures (not-true _ c.if-not-is_phase.true-raw) c.accepted.ensures
 
-returns-3 : tie.Need-returns-3
+returns-3 : tie.Need-returns-then-h-eq2
 returns-3 c =
     let r = c.before.before.before in
     let t = r.before.before.before in
@@ -138,18 +138,18 @@ returns-3 c =
     let i = x.before.before in
     let l = i.before.before.before in
     let b = l.before.before.before.before.before in
-    takes_data_lem b.requires.0 b.requires.1 (has_eight b) _ _ _ _ _ _ _ _ _ _ _ l.last-number.ensures i.before.before.if1.false i.if2.true x.slot_at.ensures
-    k.before.data-slot.ensures k.is-phase.ensures (not-false _ d.if3.false) t.before.is-last.ensures t.bit.ensures r.put_record.ensures c.accepted2.ensures
+    takes_data_lem b.requires.0 b.requires.1 (has_eight b) _ _ _ _ _ _ _ _ _ _ _ l.last_number-n.ensures i.if-n-ne0.false i.if-h-eq2.true x.slot_at-x.ensures
+    k.data_slot-y.ensures k.is_phase.ensures (not-false _ d.if-not-is_phase.false-raw) t.is_last.ensures t.bit-third.ensures r.put_record-written.ensures c.accepted-then-h-eq2.ensures
 
-returns-4 : tie.Need-returns-4
+returns-4 : tie.Need-returns
 returns-4 c =
     let i = c.before.before in
     let l = i.before.before.before in
     let b = l.before.before.before.before.before in
-    takes-settings b.requires.0 b.requires.1 (has_eight b) _ _ _ _ _ l.last-number.ensures i.before.before.if1.false i.if2.false c.before.free.ensures c.accepted3.ensures
+    takes-settings b.requires.0 b.requires.1 (has_eight b) _ _ _ _ _ l.last_number-n.ensures i.if-n-ne0.false i.if-h-eq2.false c.free.ensures c.accepted-2.ensures
 
-pub other-spec : {M : Type 1} → statement M
-other-spec =
+pub other_spec : {M : Type 1} → statement M
+other_spec =
     tie.close
     (tie.spec
     (λ c. omega (arith, small c.before.before.before))

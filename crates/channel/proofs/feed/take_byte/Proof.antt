@@ -29,20 +29,20 @@ module _ (n : ℕ) (w : List ℕ) (b room size : ℕ) (length-is : size ≡ leng
   unfolding byte_of
   goes_on e l = rw (ne_eqb (n - 7) (length_of w) (λ k. e (k ∙ sym length-is)), le-ltb max_payload (length_of w) (rw length-is at l), byte_of)
 
-returns : tie.Need-returns
-returns c = let p = c.before.before in short _ _ _ _ _ p.payload-length.ensures c.before.if1.true c.if2.true
+returns : tie.Need-returns-then-room-lt-LONGEST_RECORD
+returns c = let p = c.before.before in short _ _ _ _ _ p.payload_length-size.ensures c.if-pending-size.true c.if-room-lt-LONGEST_RECORD.true
 
-returns-2 : tie.Need-returns-2
-returns-2 c = let p = c.before.before in whole _ _ _ _ _ p.payload-length.ensures c.before.if1.true c.if2.false
+returns-2 : tie.Need-returns-then-pending-size
+returns-2 c = let p = c.before.before in whole _ _ _ _ _ p.payload_length-size.ensures c.if-pending-size.true c.if-room-lt-LONGEST_RECORD.false
 
-returns-3 : tie.Need-returns-3
-returns-3 c = let p = c.before.before in long _ _ _ _ _ p.payload-length.ensures c.before.if1.false c.if3.true
+returns-3 : tie.Need-returns-then-size-gt-MAX_PAYLOAD
+returns-3 c = let p = c.before.before in long _ _ _ _ _ p.payload_length-size.ensures c.if-pending-size.false c.if-size-gt-MAX_PAYLOAD.true
 
-returns-4 : tie.Need-returns-4
-returns-4 c = let p = c.before.before in goes_on _ _ _ _ _ p.payload-length.ensures c.before.if1.false c.if3.false
+returns-4 : tie.Need-returns
+returns-4 c = let p = c.before.before in goes_on _ _ _ _ _ p.payload_length-size.ensures c.if-pending-size.false c.if-size-gt-MAX_PAYLOAD.false
 
-pub take-byte-spec : {M : Type 1} → statement M
-take-byte-spec =
+pub take_byte_spec : {M : Type 1} → statement M
+take_byte_spec =
     tie.close
     (tie.spec
     (λ c κs. search rules)

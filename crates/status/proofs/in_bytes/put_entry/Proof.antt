@@ -19,17 +19,17 @@ three-put row at id phase =
     ∙ set-write (write row at ((number 2).put id)) (at + 2) phase
     ∙ put-behind row at (at + 2) ((number 2).put id) (phase ∷ []) (omega arith)
 
-slice-write-row-2 : tie.Need-slice-write-row-2
+slice-write-row-2 : tie.Need-bounds-row-at-2
 slice-write-row-2 c = let a = c.args in omega (arith, length-set a.row.now a.at (a.id % 256))
 
-slice-write-row-3 : tie.Need-slice-write-row-3
+slice-write-row-3 : tie.Need-bounds-row-at-3
 slice-write-row-3 c = let a = c.args in omega (arith, two-set a.row.now a.at (a.at + 1) (a.id % 256) (a.id / 256 % 256))
 
 returns : tie.Need-returns
 returns c = three-put c.args.row.now c.args.at c.args.id c.args.phase
 
-pub put-entry-spec : {M : Type 1} → statement M
-put-entry-spec =
+pub put_entry_spec : {M : Type 1} → statement M
+put_entry_spec =
     tie.close
     (tie.spec
     (λ c. search rules)

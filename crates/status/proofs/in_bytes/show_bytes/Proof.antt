@@ -39,56 +39,56 @@ turn c row now next i id phase count l id-is phase-is next-is p =
     let put : next ≡ write now (0 + 3 * i) (entry.put (get_or (entries c) i (entry_of free_slot))) = rw (next-is, id-is, phase-is, same, zero-add (3 * i)) in
     rw put (put-more entry row 0 (entries c) now (entry_of free_slot) i (omega (arith, length-map c.slots entry_of)) refl p)
 
-abbrev invariant-loop : tie.invariant-loop
+abbrev invariant-loop : tie.invariant-loop-i
 invariant-loop c row₀ n i₀ row i = (i ≤ slot_count) × (length row ≡ length row₀) × (length c.slots ≡ slot_count) × PutTo entry row₀ 0 (entries c) i row
 
-abbrev decreases-loop : tie.decreases-loop
+abbrev decreases-loop : tie.decreases-loop-i
 decreases-loop c row₀ n i₀ row i = slot_count - i
 
-returns : tie.Need-returns invariant-loop decreases-loop
+returns : tie.Need-returns-then-n-ne0 invariant-loop decreases-loop
 returns c =
     let r = c.before in
     let s = r.before.before in
-    refused s.args.c s.args.row.now _ r.row_number.ensures c.if1.true
+    refused s.args.c s.args.row.now _ r.row_number-n.ensures c.if-n-ne0.true
 
-loop-holds : tie.Need-loop-init invariant-loop decreases-loop
+loop-holds : tie.Need-loop-i-init invariant-loop decreases-loop
 loop-holds c =
     let s = c.before.before.before in
-    (omega arith, refl, eight s.args.c _ s.well-formed.0, put-none entry s.args.row.now 0 (entries s.args.c))
+    (omega arith, refl, eight s.args.c _ s.well_formed.0, put-none entry s.args.row.now 0 (entries s.args.c))
 
 -- the row has room for eight entries
-module _ (a : tie.At-loop invariant-loop decreases-loop) where
+module _ (a : tie.At-loop-i invariant-loop decreases-loop) where
   abbrev start : tie.Start invariant-loop decreases-loop
   start = a.before.before.before.before
 
   enough : 24 ≤ length start.args.row.now
   enough =
-      let k : slot_count ≤ length start.args.row.now / 3 = has_eight start.args.c _ (sym a.before.if1.left ∙ a.before.before.row_number.ensures) in
+      let k : slot_count ≤ length start.args.row.now / 3 = has_eight start.args.c _ (sym a.if-n-ne0.false ∙ a.row_number-n.ensures) in
       omega arith
 
-put-entry-requires : tie.Need-put-entry-requires invariant-loop decreases-loop
-put-entry-requires c κs = let a = c.before.before.before.before in omega (arith, enough a, a.loop.invariant.1)
+put-entry-requires : tie.Need-put_entry-requires invariant-loop decreases-loop
+put-entry-requires c κs = let a = c.before.before.before.before in omega (arith, enough a, a.loop-i.invariant.1)
 
-loop-again : tie.Need-loop-preserved invariant-loop decreases-loop
+loop-again : tie.Need-loop-i-preserved invariant-loop decreases-loop
 loop-again c =
     let p = c.before.before in
     let a = p.before.before.before.before.before in
     let s = start a in (
       omega arith,
-      wrote-length _ p.put-entry.new.0 _ _ p.put-entry.ensures ∙ a.loop.invariant.1,
-      a.loop.invariant.2,
-      turn s.args.c s.args.row.now a.loop.row _ a.loop.i _ _ a.loop.invariant.2 (omega arith) p.before.before.id-at.ensures p.before.phase-at.ensures p.put-entry.ensures a.loop.invariant.3,
+      wrote-length _ p.put_entry.new.0 _ _ p.put_entry.ensures ∙ a.loop-i.invariant.1,
+      a.loop-i.invariant.2,
+      turn s.args.c s.args.row.now a.loop-i.row _ a.loop-i.i _ _ a.loop-i.invariant.2 (omega arith) p.id_at.ensures p.phase_at.ensures p.put_entry.ensures a.loop-i.invariant.3,
     )
 
-returns-2 : tie.Need-returns-2 invariant-loop decreases-loop
+returns-2 : tie.Need-returns invariant-loop decreases-loop
 returns-2 c =
     let a = c.before in
     let s = start a in
-    all-put s.args.c s.args.row.now a.loop.row _ a.before.before.row_number.ensures a.before.if1.false
-    (put-all entry s.args.row.now 0 (entries s.args.c) a.loop.row a.loop.i (omega (arith, length-map s.args.c.slots entry_of, a.loop.invariant.2)) a.loop.invariant.3)
+    all-put s.args.c s.args.row.now a.loop-i.row _ a.row_number-n.ensures a.if-n-ne0.false
+    (put-all entry s.args.row.now 0 (entries s.args.c) a.loop-i.row a.loop-i.i (omega (arith, length-map s.args.c.slots entry_of, a.loop-i.invariant.2)) a.loop-i.invariant.3)
 
-pub show-bytes-spec : {M : Type 1} → statement M
-show-bytes-spec =
+pub show_bytes_spec : {M : Type 1} → statement M
+show_bytes_spec =
     tie.close
     (tie.spec
     invariant-loop
@@ -103,5 +103,5 @@ show-bytes-spec =
     (λ c. omega arith)
     (λ c. omega arith)
     loop-again
-    (λ c. c.before.loop.invariant.1)
+    (λ c. c.loop-i.invariant.1)
     returns-2)

@@ -6,20 +6,11 @@ use mathlib.Core.List.{List}
 use native.Mathlib.Omega.{arith}
 use lib.ListN.{length, take, drop, replicate, length-drop, length-replicate}
 use lib.Seq.{length-take-le}
-use borrow.Author.Rules.{rules}
 use borrow.Rule.Slice.PartMut.{mid_of, put_mid}
 use Rattle.buffer.specs.Bytes.{write}
 use Rattle.buffer.proofs.WriteLaws.{write_mid, take-front}
 use Rattle.frame.specs.Limits.{max_command, slot_count, work_area, part_start}
-use Rattle.channel.proofs.place.Statement.{statement}
-use Rattle.channel.proofs.place.Tie as tie
-
-slice-aggregate-put-2 : tie.Need-slice-aggregate-put-2
-slice-aggregate-put-2 c =
-    let first = c.before.before.before in
-    let kept = first.put.auto.0 in
-    let a = first.before.before.before.before.before.args in
-    sym (length-take-le a.n first.put.new.0 (omega arith))
+use Rattle.channel.proofs.place.Goals as goal
 
 -- the payload's copy z becomes p, and the slot's part, of size bytes, becomes part
 placed : (w z p part : List ℕ) (slot held n size : ℕ) → work_area ≤ length w → slot < slot_count → held + n ≤ max_command → length z ≡ max_command → size ≡ max_command
@@ -31,32 +22,11 @@ placed w z p part slot held n size h l k zs e p-is part-is =
     let front : take n p ≡ take n (drop 8 w) = rw (p-is, m) (rw payload at (take-front z (take n (drop 8 w)) (omega arith))) in
     rw (part-is, front, e) (write_mid w (part_start slot) max_command held (take n (drop 8 w)) (omega arith) (omega arith))
 
-returns : tie.Need-returns
-returns c =
-    let second = c.before.before in
-    let first = second.before.before.before.before in
-    let a = first.before.before.before.before.before.args in
-    let size : part_start a.slot + max_command - part_start a.slot ≡ max_command = omega arith in
-    placed a.work.now (replicate max_command 0) first.put.new.0 second.put2.new.0 a.slot a.held a.n _ (omega arith) (omega arith) (omega arith) (length-replicate {A = ℕ} max_command 0) size first.put.ensures second.put2.ensures
+pub slice_bounds-put-end-4 : goal.slice_bounds-put-end-4
+slice_bounds-put-end-4 c = sym (length-take-le c.args.n c.put.new.buffer (omega (arith, c.put.auto.buffer)))
 
-pub place-spec : {M : Type 1} → statement M
-place-spec =
-    tie.close
-    (tie.spec
-    (λ c. search rules)
-    (λ c. search rules)
-    (λ c. search rules)
-    (λ c. search rules)
-    (λ c. search rules)
-    (λ c κs. search rules)
-    (λ c. search rules)
-    (λ c. search rules)
-    (λ c. search rules)
-    (λ c. search rules)
-    (λ c. search rules)
-    (λ c. search rules)
-    (λ c. search rules)
-    slice-aggregate-put-2
-    (λ c κs. search rules)
-    (λ c. search rules)
-    returns)
+pub returns : goal.returns
+returns c =
+    let a = c.args in
+    let size : part_start a.slot + max_command - part_start a.slot ≡ max_command = omega arith in
+    placed a.work.now (replicate max_command 0) c.put.new.buffer c.put-2.new.buffer a.slot a.held a.n _ (omega arith) (omega arith) (omega arith) (length-replicate {A = ℕ} max_command 0) size c.put.ensures c.put-2.ensures

@@ -4,7 +4,6 @@ use Prim.Native.Nat.{ℕ, ◌+◌, ◌-◌, ◌≤◌}
 use mathlib.Core.Path.{◌≡◌}
 use mathlib.Core.List.{List}
 use native.Mathlib.Omega.{arith}
-use borrow.Author.Rules.{rules}
 use lib.ListN.{length, get_or, set}
 use Rattle.frame.specs.Limits.{slot_count}
 use Rattle.requests.specs.declared.Slot.{Slot}
@@ -15,8 +14,7 @@ use Rattle.channel.specs.declared.Channel.{Channel}
 use Rattle.channel.specs.Receiver.{with_active, with_slots, with_slot}
 use Rattle.channel.specs.Steps.{CountRight}
 use Rattle.channel.proofs.Handed.{eight}
-use Rattle.channel.proofs.Channel.with_slot.Statement.{statement}
-use Rattle.channel.proofs.Channel.with_slot.Tie as tie
+use Rattle.channel.proofs.Channel.with_slot.Goals as goal
 
 -- the slot at the place before and after, and whether they are used
 module _ (s : Channel) (i : ℕ) (x : Slot) (changed : List Slot) (before after : Slot) (b a : ℕ) (counts : CountRight s) (changed-is : changed ≡ set s.slots i x)
@@ -35,39 +33,13 @@ module _ (s : Channel) (i : ℕ) (x : Slot) (changed : List Slot) (before after 
 small : (s : Channel) (x : Slot) (a : ℕ) → length s.slots ≡ slot_count → CountRight s → a ≡ used_bit x → s.active + a ≤ 9
 small s x a count counts a-is = omega (arith, at-most-all s.slots, at_most_one x)
 
--- the slot put is known to be used or not
-module _ (u : tie.After-used-bit) where
-  abbrev put : tie.After-with-slot
-  put = u.before.before.before
+pub overflow_add-next : goal.overflow_add-next
+overflow_add-next c =
+    let few : c.args.self.active + c.used_bit.result ≤ 9 = small c.args.self _ _ (eight c.args.self _ c.well_formed.0) c.requires c.used_bit.ensures in
+    record { fits = omega (arith, few) }
 
-  abbrev start : tie.Start
-  start = put.before.before
+pub overflow_sub-next : goal.overflow_sub-next
+overflow_sub-next c = enough c.args.self _ _ _ _ _ _ _ c.requires c.with_slot-changed.ensures c.slot_at-before.ensures c.slot_at-after.ensures c.used_bit-2.ensures c.used_bit.ensures
 
-  fits : start.args.self.active + u.used-bit.result ≤ 9
-  fits = small start.args.self _ _ (eight start.args.self _ start.good.0) start.pre u.used-bit.ensures
-
-add-next : tie.Need-overflow-add-next
-add-next c = record { fits = omega (arith, fits c.before) }
-
-sub-next : tie.Need-overflow-sub-next
-sub-next c =
-    let u = c.before.before in
-    enough (start u).args.self _ _ _ _ _ _ _ (start u).requires (put u).with-slot.ensures u.before.before.slot_at.ensures u.before.slot-at2.ensures c.used-bit2.ensures u.used-bit.ensures
-
-returns : tie.Need-returns
-returns c =
-    let u = c.before.before in
-    changes (start u).args.self _ _ _ _ _ _ _ (start u).requires (put u).with-slot.ensures u.before.before.slot_at.ensures u.before.slot-at2.ensures c.used-bit2.ensures u.used-bit.ensures
-
-pub with-slot-spec : {M : Type 1} → statement M
-with-slot-spec =
-    tie.close
-    (tie.spec
-    (λ c κs. search rules)
-    (λ c κs. search rules)
-    (λ c κs. search rules)
-    (λ c κs. search rules)
-    add-next
-    (λ c κs. search rules)
-    sub-next
-    returns)
+pub returns : goal.returns
+returns c = changes c.args.self _ _ _ _ _ _ _ c.requires c.with_slot-changed.ensures c.slot_at-before.ensures c.slot_at-after.ensures c.used_bit-2.ensures c.used_bit.ensures
