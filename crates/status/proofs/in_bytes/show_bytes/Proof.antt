@@ -75,7 +75,7 @@ loop-again c =
     let a = p.before.before.before.before.before in
     let s = start a in (
       omega arith,
-      wrote-length _ p.put_entry.new.0 _ _ p.put_entry.ensures ∙ a.loop-i.invariant.1,
+      wrote-length _ p.put_entry.new.row _ _ p.put_entry.ensures ∙ a.loop-i.invariant.1,
       a.loop-i.invariant.2,
       turn s.args.c s.args.row.now a.loop-i.row _ a.loop-i.i _ _ a.loop-i.invariant.2 (omega arith) p.id_at.ensures p.phase_at.ensures p.put_entry.ensures a.loop-i.invariant.3,
     )
