@@ -108,13 +108,7 @@ fn at_end(run: Run, output: &impl Print) -> Run {
 }
 
 // Takes bytes in order, until nothing more is read.
-fn take_all(
-    run: Run,
-    bytes: &[u8],
-    output: &impl Print,
-    work: &mut Work,
-    out: &mut Output,
-) -> Run {
+fn take_all(run: Run, bytes: &[u8], output: &impl Print, work: &mut Work, out: &mut Output) -> Run {
     let mut last = run;
     let mut i: usize = 0;
     while i < bytes.len() {
@@ -131,13 +125,7 @@ fn take_all(
 
 // One call of feed, and what there is to say of it. Behind a record the output is too short for another, so that the call stops before the
 // last byte of the next frame: the record's request is finished before that frame is judged, however the input came in pieces.
-fn take(
-    run: Run,
-    bytes: &[u8],
-    output: &impl Print,
-    work: &mut Work,
-    out: &mut Output,
-) -> Step
+fn take(run: Run, bytes: &[u8], output: &impl Print, work: &mut Work, out: &mut Output) -> Step
     ensures { (result.taken ≤ length bytes.now) × (result.run.is_going ≡ true → 0 < result.taken) }
 {
     let before = run.channel;

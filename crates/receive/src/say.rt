@@ -50,11 +50,7 @@ fn say_front(text: &Text, n: usize, output: &impl Print) -> bool {
 // Writes what was refused, by its number and the count of bytes taken, the last of which was judged.
 pub(crate) fn say_refusal(number: u8, place: u64, output: &impl Print) {
     say_counted(b"refused ", number as u64, output);
-    say_counted(
-        b" at byte ",
-        std::num::wrapping_sub_u64(place, 1),
-        output,
-    );
+    say_counted(b" at byte ", std::num::wrapping_sub_u64(place, 1), output);
     say(b": ", output);
     words::say_refused(number, output);
 }

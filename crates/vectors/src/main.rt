@@ -63,12 +63,7 @@ fn take_all(
 }
 
 // Takes one byte.
-fn take(
-    state: State,
-    b: u8,
-    output: &impl Print,
-    item: &mut [u8; frame::MAX_COMMAND],
-) -> State {
+fn take(state: State, b: u8, output: &impl Print, item: &mut [u8; frame::MAX_COMMAND]) -> State {
     if b == b'\n' {
         return finish(state, output, item);
     }

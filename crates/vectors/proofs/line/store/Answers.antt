@@ -1,18 +1,8 @@
--- `vectors::line::store` meets its contract: a high half is stored with an empty low half behind it, and a low half keeps the high one.
--- Assumes nothing.
-use borrow.Author.Rules.{rules}
+-- `vectors::line::store`: a high half is stored with an empty low half behind it, and a low half keeps the high one. Assumes nothing.
 use borrow.Author.Tests.{eqb-true, eqb-false}
-use mathlib.Core.Path.{◌≡◌, refl}
-use mathlib.Core.Bool.{Bool, true, false}
-use mathlib.Core.List.{List}
-use Prim.Native.Nat.{ℕ, ◌+◌, ◌*◌, ◌/◌, ◌%◌, ◌<◌}
-use native.Mathlib.Omega.{arith}
-use lib.ListN.{length, get_or, set}
-use lib.Seq.{get_or-set_same, get_or-set_other}
-use lib.Dec.{eqb}
+use Rattle.std.proofs.Common.{◌≡◌, ℕ, ◌+◌, ◌*◌, ◌/◌, ◌%◌, ◌<◌, Bool, true, false, eqb, List, length, get_or, set, refl, arith, get_or-set_same, get_or-set_other}
 use Rattle.vectors.specs.Digits.{digit_at, Stored}
-use Rattle.vectors.proofs.line.store.Statement.{statement}
-use Rattle.vectors.proofs.line.store.Tie as tie
+use Rattle.vectors.proofs.line.store.Goals as goal
 
 -- a byte is changed: the digits of other bytes are as they were
 other : (l : List ℕ) (i v j : ℕ) → (j / 2 ≡ i → ⊥) → digit_at (set l i v) j ≡ digit_at l j
@@ -43,26 +33,8 @@ low l d k v e h s q = record {
   before_it = λ j b. same_byte l k v j (eqb (j / 2) (k / 2)) refl e h b (omega arith);
 }
 
-returns : tie.Need-returns
-returns c =
-    let a = c.before.before.args in
-    high a.item.now a.d a.k c.if1.true (omega arith)
+pub returns-then-k-eq0 : goal.returns-then-k-eq0
+returns-then-k-eq0 c = high c.args.item.now c.args.d c.args.k c.if-k-eq0.true (omega arith)
 
-returns-2 : tie.Need-returns-2
-returns-2 c =
-    let a = c.before.before.before.before.args in
-    low a.item.now a.d a.k c.with-low.result (omega arith) (omega arith) (omega arith) c.with-low.ensures
-
-pub store_spec : {M : Type 1} → statement M
-store_spec =
-    tie.close
-    (tie.spec
-    (λ c. search rules)
-    (λ c. search rules)
-    (λ c. search rules)
-    (λ c κs. search rules)
-    (λ c. search rules)
-    (λ c. search rules)
-    returns
-    (λ c. search rules)
-    returns-2)
+pub returns-else-k-eq0 : goal.returns-else-k-eq0
+returns-else-k-eq0 c = low c.args.item.now c.args.d c.args.k c.with_low.result (omega arith) (omega arith) (omega arith) c.with_low.ensures
