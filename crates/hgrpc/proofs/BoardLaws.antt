@@ -1,12 +1,12 @@
 -- The calls on a board's bytes over whole lists of commands, what a refusal leaves, and where a label stands.
 -- Assumes nothing.
-use Prim.Native.Nat.{ℕ, zero, suc, ◌≤◌}
+use Prim.Native.Nat.{ℕ, zero, suc}
 use mathlib.Core.List.{List, [], ◌∷◌, foldl}
 use mathlib.Core.Option.{Option, some, none}
 use mathlib.Core.Path.{◌≡◌, refl, ap, ◌∙◌}
 use native.Mathlib.Omega.{arith}
 use lib.Dec.{lit≤}
-use lib.ListN.{length, get_or, replicate}
+use lib.ListN.{get_or, replicate}
 use borrow.Author.Tests.{lt-ltb}
 use Rattle.buffer.proofs.WriteLaws.{length-write}
 use Rattle.board.specs.declared.Coil.{Coil}

@@ -5,16 +5,16 @@ use Rattle.hgrpc.proofs.CallLaws.{fresh-other, fresh-done}
 use Rattle.hgrpc.proofs.hgrpc_fresh.Statement.{statement}
 use Rattle.hgrpc.proofs.hgrpc_fresh.Tie as tie
 
-returns : tie.Need-returns
-returns c = fresh-other _ c.if1.true
+returns : tie.Need-returns-then-state-ne-STATE
+returns c = fresh-other _ c.if-state-ne-STATE.true
 
-returns-2 : tie.Need-returns-2
+returns-2 : tie.Need-returns
 returns-2 c =
     let p = c.before.before in
-    fresh-done _ p.before.before.before.if1.false _ _ p.before.fresh.ensures p.put-state.ensures
+    fresh-done _ p.if-state-ne-STATE.false _ _ p.fresh.ensures p.put_state.ensures
 
-pub hgrpc-fresh-spec : {M : Type 1} → statement M
-hgrpc-fresh-spec =
+pub hgrpc_fresh_spec : {M : Type 1} → statement M
+hgrpc_fresh_spec =
     tie.close
     (tie.spec
     returns

@@ -8,23 +8,23 @@ use Rattle.hgrpc.proofs.BoardCalls.{label-none, label_outside, label-done}
 use Rattle.hgrpc.proofs.boards.hgrpc_board_label.Statement.{statement}
 use Rattle.hgrpc.proofs.boards.hgrpc_board_label.Tie as tie
 
-returns : tie.Need-returns
-returns c = label-none _ _ (sym c.before.is-board.ensures ∙ not-true _ c.if1.true)
+returns : tie.Need-returns-then-not-is_board
+returns c = label-none _ _ (sym c.is_board.ensures ∙ not-true _ c.if-not-is_board.true-raw)
 
-returns-2 : tie.Need-returns-2
+returns-2 : tie.Need-returns-then-coil-ge-COILS
 returns-2 c =
     let k = c.before in
-    label_outside _ _ (sym k.before.is-board.ensures ∙ not-false _ k.if1.false) c.if2.true
+    label_outside _ _ (sym k.is_board.ensures ∙ not-false _ k.if-not-is_board.false-raw) c.if-coil-ge-COILS.true
 
-returns-3 : tie.Need-returns-3
+returns-3 : tie.Need-returns
 returns-3 c =
     let x = c.before in
     let l = x.before in
     let k = l.before in
-    label-done _ _ (sym k.before.is-board.ensures ∙ not-false _ k.if1.false) l.if2.false _ _ x.board-of.ensures c.coil-at.ensures
+    label-done _ _ (sym k.is_board.ensures ∙ not-false _ k.if-not-is_board.false-raw) l.if-coil-ge-COILS.false _ _ x.board_of-board.ensures c.coil_at-c.ensures
 
-pub hgrpc-board-label-spec : {M : Type 1} → statement M
-hgrpc-board-label-spec =
+pub hgrpc_board_label_spec : {M : Type 1} → statement M
+hgrpc_board_label_spec =
     tie.close
     (tie.spec
     (λ c κs. search rules)

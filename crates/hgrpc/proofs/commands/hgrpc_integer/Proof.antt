@@ -8,19 +8,19 @@ use Rattle.hgrpc.specs.Calls.{integer, integer_answer}
 use Rattle.hgrpc.proofs.commands.hgrpc_integer.Statement.{statement}
 use Rattle.hgrpc.proofs.commands.hgrpc_integer.Tie as tie
 
-returns : tie.Need-returns
+returns : tie.Need-returns-in-Whole
 unfolding integer_answer
 returns c =
-    let z = c.before.x.given.0.0 in
+    let z = c.in-Whole.z in
     let e : to_z w64 (of_z w64 z) ≡ z = search rules in
-    rw (← c.before.before.before.integer-at.ensures, c.before.x.given.1) (ap (integer 0) e)
+    rw (← c.integer_at-x.ensures, c.in-Whole.is) (ap (integer 0) e)
 
-returns-2 : tie.Need-returns-2
+returns-2 : tie.Need-returns-in-NoNumber
 unfolding integer_answer
-returns-2 c = rw (← c.before.before.before.integer-at.ensures, c.before.x2.given.1)
+returns-2 c = rw (← c.integer_at-x.ensures, c.in-NoNumber.is)
 
-pub hgrpc-integer-spec : {M : Type 1} → statement M
-hgrpc-integer-spec =
+pub hgrpc_integer_spec : {M : Type 1} → statement M
+hgrpc_integer_spec =
     tie.close
     (tie.spec
     (λ c κs. search rules)

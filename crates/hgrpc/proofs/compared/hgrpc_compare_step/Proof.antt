@@ -12,10 +12,10 @@ use Rattle.hgrpc.proofs.compared.hgrpc_compare_step.Tie as tie
 returns : tie.Need-returns
 unfolding step_call stepped
 returns c =
-    let s = c.before.before.before.before.before.before.step in
+    let s = c.step-step in
     let r = s.result in
-    ap (λ (t : Told). step t (standing r.state) r.first r.second) c.tell.ensures
+    ap (λ (t : Told). step t (standing r.state) r.first r.second) c.tell-told.ensures
     ∙ ap {B = Step} (λ (x : Stepped). step (told_of x.said) x.state x.first x.second) s.ensures
 
-pub hgrpc-compare-step-spec : {M : Type 1} → statement M
-hgrpc-compare-step-spec = tie.close (tie.spec (λ c κs. search rules) (λ c κs. search rules) returns)
+pub hgrpc_compare_step_spec : {M : Type 1} → statement M
+hgrpc_compare_step_spec = tie.close (tie.spec (λ c κs. search rules) (λ c κs. search rules) returns)

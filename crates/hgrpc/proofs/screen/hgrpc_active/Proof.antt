@@ -7,17 +7,17 @@ use Rattle.hgrpc.proofs.CallLaws.{active-none, active-done}
 use Rattle.hgrpc.proofs.screen.hgrpc_active.Statement.{statement}
 use Rattle.hgrpc.proofs.screen.hgrpc_active.Tie as tie
 
-returns : tie.Need-returns
-returns c = active-none _ (sym c.before.is_state.ensures ∙ not-true _ c.if1.true)
+returns : tie.Need-returns-then-not-is_state
+returns c = active-none _ (sym c.is_state.ensures ∙ not-true _ c.if-not-is_state.true-raw)
 
-returns-2 : tie.Need-returns-2
+returns-2 : tie.Need-returns
 returns-2 c =
     let a = c.before.before in
     let k = a.before.before in
-    active-done _ (sym k.before.is_state.ensures ∙ not-false _ k.if1.false) _ _ a.before.state-of.ensures a.active.ensures
+    active-done _ (sym k.is_state.ensures ∙ not-false _ k.if-not-is_state.false-raw) _ _ a.state_of-channel.ensures a.active-active.ensures
 
-pub hgrpc-active-spec : {M : Type 1} → statement M
-hgrpc-active-spec =
+pub hgrpc_active_spec : {M : Type 1} → statement M
+hgrpc_active_spec =
     tie.close
     (tie.spec
     (λ c κs. search rules)

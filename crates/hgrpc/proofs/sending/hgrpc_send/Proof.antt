@@ -5,7 +5,7 @@ use Rattle.hgrpc.proofs.sending.hgrpc_send.Statement.{statement}
 use Rattle.hgrpc.proofs.sending.hgrpc_send.Tie as tie
 
 returns : tie.Need-returns
-returns c = c.before.before.send.ensures
+returns c = c.send-sent.ensures
 
-pub hgrpc-send-spec : {M : Type 1} → statement M
-hgrpc-send-spec = tie.close (tie.spec (λ c κs. search rules) (λ c. search rules) returns)
+pub hgrpc_send_spec : {M : Type 1} → statement M
+hgrpc_send_spec = tie.close (tie.spec (λ c κs. search rules) (λ c. search rules) returns)
