@@ -121,6 +121,7 @@ fn label_change(command: &[u8]) -> Change
 
 // What a command of this name, with so many arguments, asks for; 40 is an unknown command. Arguments are looked up only where there are as
 // many as the command takes, so that many of them cost no more than their check.
+#[tactic(auto, unfolding(crate::specs::Commands::by_name))]
 fn by_name(command: &[u8], name: &[u8], count: u64) -> Change
     ensures { result ≡ by_name command.now name.now count }
 {

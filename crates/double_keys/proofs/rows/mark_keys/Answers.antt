@@ -2,18 +2,22 @@
 -- Assumes nothing.
 use mathlib.Core.Path.{◌≡◌, ◌∙◌}
 use mathlib.Core.List.{List}
-use Prim.Native.Nat.{ℕ, ◌<◌, ◌%◌}
+use Prim.Native.Nat.{ℕ, ◌+◌, ◌≤◌, ◌<◌, ◌%◌}
 use native.Mathlib.Nat.{mod-lt}
 use Rattle.std.proofs.Common.{arith}
-use lib.ListN.{length, length-set}
-use Rattle.double_keys.specs.Search.{hash}
-use Rattle.double_keys.proofs.Marks.{Raised, raised_none, raised_one, counted-more, marked}
+use lib.ListN.{length, set, length-set}
+use Rattle.double_keys.specs.Search.{hash, key_of}
+use Rattle.double_keys.proofs.Marks.{Counted, Raised, raised_none, raised_one, counted-more, marked}
 use Rattle.double_keys.proofs.rows.mark_keys.Goals as goal
-use Rattle.double_keys.proofs.rows.mark_keys.Goals.{then-counts-mark-lt2, else-counts-mark-lt2}
 
 -- the mark of a key, by the key's number
 is-mark : (size h : ℕ) (k k' : List ℕ) → h ≡ hash k → k ≡ k' → h % size ≡ hash k' % size
 is-mark size h k k' e f = rw (e, f)
+
+-- a key more, once its mark is counted
+module _ (s starts stops counts₀ row₀ counts counts' row : List ℕ) {n i mark : ℕ} (f : length counts ≡ length counts₀) (g : length row ≡ length row₀) (c : Counted s starts stops counts row i) (w : i < length row) (e : mark ≡ hash (key_of s starts stops i) % length counts) (h : i + 1 ≤ n) (r : Raised counts counts' mark) where
+  turn : (i + 1 ≤ n) × (length counts' ≡ length counts₀) × (length (set row i mark) ≡ length row₀) × Counted s starts stops counts' (set row i mark) (i + 1)
+  turn = (h, r.long ∙ f, length-set row i mark ∙ g, counted-more s starts stops counts counts' row i mark c r w e)
 
 pub key_at-requires : goal.key_at-requires
 key_at-requires c = (c.requires.0, c.loop-i-test.true)
@@ -24,15 +28,8 @@ loop-i-preserved c =
     let mark = c.key_hash.result % length l.counts in
     let in_counts : mark < length l.counts = mod-lt c.key_hash.result (omega (arith, l.invariant.1, c.requires.2)) in
     let in_row : l.i < length l.row = omega (arith, l.invariant.2, c.requires.1) in
-    let r : Raised l.counts c.if-counts-mark-lt2.counts mark = elim c.if-counts-mark-lt2.branch [
-      | then-counts-mark-lt2 w ↦ rw w.counts-is (raised_one l.counts mark in_counts)
-      | else-counts-mark-lt2 w ↦ rw w.counts-is (raised_none l.counts mark (omega (arith, w.if-counts-mark-lt2.false)))
-    ] in (
-      omega arith,
-      r.long ∙ l.invariant.1,
-      simp length-set l.invariant.2,
-      counted-more _ _ _ _ _ _ _ _ l.invariant.3 r in_row (is-mark (length l.counts) _ _ _ c.key_hash.ensures c.key_at.ensures),
-    )
+    turn _ _ _ _ _ _ _ _ l.invariant.1 l.invariant.2 l.invariant.3 in_row (is-mark (length l.counts) _ _ _ c.key_hash.ensures c.key_at.ensures) (omega arith)
+    (grind (arith, raised_one l.counts mark in_counts, raised_none l.counts mark))
 
 pub returns : goal.returns
 returns c =
