@@ -1,6 +1,6 @@
 -- The commands in joined records: a record at the front gives its command, and records of data give none.
 -- Assumes nothing.
-use Prim.Native.Nat.{ℕ, ◌+◌, ◌*◌, ◌/◌, ◌%◌, ◌<◌, ◌≤◌}
+use Prim.Native.Nat.{ℕ, ◌/◌, ◌%◌, ◌<◌, ◌≤◌}
 use mathlib.Core.Path.{◌≡◌, refl, ap, ◌∙◌}
 use mathlib.Core.List.{List, [], ◌∷◌, ◌++◌, append-nil}
 use native.Mathlib.Omega.{arith}
@@ -47,6 +47,7 @@ data_none request (p ∷ q ∷ ps) h = front 2 request 0 p (data_records request
 
 -- payloads of frames that are full, or as long as the last one is, are short
 pub filled-short : (size n : ℕ) (fs : List Frame) → size ≤ max_payload → Filled size n fs → Short (payloads fs)
+filled-short size n [] h k = elim k [ ]
 filled-short size n (f ∷ fs) h (Filled.full e rest) = (omega (arith, e), filled-short size n fs h rest)
 filled-short size n (f ∷ []) h (Filled.last e z) = (omega (arith, e), tt)
 
