@@ -26,7 +26,6 @@ use Rattle.frame.specs.Settings
 use Rattle.frame.specs.Records
 use Rattle.requests.specs.Phases
 use Rattle.requests.specs.Slots
-use Rattle.demands.specs.Request
 use Rattle.rules.specs.Rules
 use Rattle.channel.specs.Receiver
 use Rattle.channel.specs.Receiver.{Receiver}

@@ -1,7 +1,6 @@
 -- `log_compare::Partial::head_at` meets its contract: the array of six places holds the head.
 -- Assumes nothing.
-use Rattle.std.proofs.Common.{◌≡◌, ◌-◌, ◌%◌, ◌≤◌, length, sym, ◌∙◌, arith, rules}
-use lib.ListN.{length-map}
+use Rattle.std.proofs.Common.{◌≡◌, ◌-◌, ◌%◌, ◌≤◌, length, arith, rules}
 use Rattle.log_compare.specs.Partial.{head_of}
 use Rattle.log_compare.proofs.Held.{count, array_claims, array-byte}
 use Rattle.log_compare.proofs.Partial.head_at.Statement.{statement}

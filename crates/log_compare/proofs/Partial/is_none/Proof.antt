@@ -1,7 +1,6 @@
 -- `log_compare::Partial::is_none` meets its contract, by how many bytes of a head are held.
 -- Assumes nothing.
-use Rattle.std.proofs.Common.{◌≡◌, length, sym, ◌∙◌}
-use lib.ListN.{length-map}
+use Rattle.std.proofs.Common.{◌≡◌, length, sym}
 use Rattle.log_compare.proofs.Held.{none-held}
 use Rattle.log_compare.proofs.Partial.is_none.Statement.{statement}
 use Rattle.log_compare.proofs.Partial.is_none.Tie as tie

@@ -1,7 +1,6 @@
 -- `log_compare::Partial::is_over` meets its contract, by how many bytes of a head are held.
 -- Assumes nothing.
-use Rattle.std.proofs.Common.{◌≡◌, length, sym, ◌∙◌}
-use lib.ListN.{length-map}
+use Rattle.std.proofs.Common.{◌≡◌, length, sym}
 use Rattle.log_compare.proofs.Held.{over-held}
 use Rattle.log_compare.proofs.Partial.is_over.Statement.{statement}
 use Rattle.log_compare.proofs.Partial.is_over.Tie as tie

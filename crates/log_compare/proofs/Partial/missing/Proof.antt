@@ -1,7 +1,6 @@
 -- `log_compare::Partial::missing` meets its contract, by how many bytes of a head are held.
 -- Assumes nothing.
-use Rattle.std.proofs.Common.{◌≡◌, length, sym, ◌∙◌, rules}
-use lib.ListN.{length-map}
+use Rattle.std.proofs.Common.{◌≡◌, length, rules}
 use Rattle.log_compare.proofs.Held.{count}
 use Rattle.log_compare.proofs.Partial.missing.Statement.{statement}
 use Rattle.log_compare.proofs.Partial.missing.Tie as tie

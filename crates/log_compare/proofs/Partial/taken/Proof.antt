@@ -1,7 +1,6 @@
 -- `log_compare::Partial::taken` meets its contract, by the three ways: a body goes on, a head goes on, a head is whole.
 -- Assumes nothing.
-use Rattle.std.proofs.Common.{◌≡◌, length, sym, ◌∙◌, arith, rules}
-use lib.ListN.{length-map}
+use Rattle.std.proofs.Common.{◌≡◌, length, arith, rules}
 use Rattle.log_compare.proofs.Held.{count, body-taken, head-taken, whole-taken}
 use Rattle.log_compare.proofs.Partial.taken.Statement.{statement}
 use Rattle.log_compare.proofs.Partial.taken.Tie as tie
