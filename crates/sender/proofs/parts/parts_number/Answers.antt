@@ -53,32 +53,32 @@ pub returns-then-name-lt1 : goal.returns-then-name-lt1
 unfolding pairs_end
 returns-then-name-lt1 c =
     let a = c.args in
-    empty a.name.now a.pairs.now a.count (omega arith) (omega arith) _ (sym c.in-At.is ∙ c.read_map.ensures) c.if-end-pairs.false c.if-name-lt1.true
+    empty a.name.now a.pairs.now a.count (omega arith) (omega arith) _ (sym c.in-At.is ∙ c.read_map.ensures) (omega arith) c.if-name-lt1.true
 
 pub returns-then-name-gt64 : goal.returns-then-name-gt64
 unfolding pairs_end
 returns-then-name-gt64 c =
     let a = c.args in
-    long a.name.now a.pairs.now a.count (omega arith) (omega arith) _ (sym c.in-At.is ∙ c.read_map.ensures) c.if-end-pairs.false c.if-name-gt64.true
+    long a.name.now a.pairs.now a.count (omega arith) (omega arith) _ (sym c.in-At.is ∙ c.read_map.ensures) (omega arith) c.if-name-gt64.true
 
 -- past the search of the keys
 pub returns-in-Single : goal.returns-in-Single
 unfolding pairs_end
 returns-in-Single c =
     let a = c.args in
-    by-keys a.name.now a.pairs.now a.count (omega arith) (omega arith) _ (sym c.in-At.is ∙ c.read_map.ensures) c.if-end-pairs.false c.if-name-lt1.false c.if-name-gt64.false Single
+    by-keys a.name.now a.pairs.now a.count (omega arith) (omega arith) _ (sym c.in-At.is ∙ c.read_map.ensures) (omega arith) c.if-name-lt1.false c.if-name-gt64.false Single
     (sym c.in-Single.is ∙ c.judge_keys.ensures)
 
 pub returns-in-Double : goal.returns-in-Double
 unfolding pairs_end
 returns-in-Double c =
     let a = c.args in
-    by-keys a.name.now a.pairs.now a.count (omega arith) (omega arith) _ (sym c.in-At.is ∙ c.read_map.ensures) c.if-end-pairs.false c.if-name-lt1.false c.if-name-gt64.false Double
+    by-keys a.name.now a.pairs.now a.count (omega arith) (omega arith) _ (sym c.in-At.is ∙ c.read_map.ensures) (omega arith) c.if-name-lt1.false c.if-name-gt64.false Double
     (sym c.in-Double.is ∙ c.judge_keys.ensures)
 
 pub returns-in-Others : goal.returns-in-Others
 unfolding pairs_end
 returns-in-Others c =
     let a = c.args in
-    by-keys a.name.now a.pairs.now a.count (omega arith) (omega arith) _ (sym c.in-At.is ∙ c.read_map.ensures) c.if-end-pairs.false c.if-name-lt1.false c.if-name-gt64.false Others
+    by-keys a.name.now a.pairs.now a.count (omega arith) (omega arith) _ (sym c.in-At.is ∙ c.read_map.ensures) (omega arith) c.if-name-lt1.false c.if-name-gt64.false Others
     (sym c.in-Others.is ∙ c.judge_keys.ensures)
