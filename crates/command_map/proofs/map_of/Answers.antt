@@ -5,6 +5,7 @@ use mathlib.Core.Path.{◌≡◌, sym, ◌∙◌}
 use mathlib.Core.Bool.{true}
 use mathlib.Core.List.{foldl}
 use borrow.Author.Tests.{ne_eqb}
+use Rattle.std.proofs.Common.{arith}
 use Rattle.keys.specs.Keys.{twice}
 use Rattle.entries.specs.Entries.{contents, entries}
 use Rattle.double_keys.proofs.RowLaws.{row-answers}
@@ -28,7 +29,7 @@ returns-then-p-s c =
 pub returns-in_default-c : goal.returns-in_default-c
 returns-in_default-c c =
     sym
-    (map_whole _ _ _ _ _ _ _ c.read_fields-f.ensures c.in-At.is c.if-p-s.false
+    (map_whole _ _ _ _ _ _ _ c.read_fields-f.ensures c.in-At.is (omega arith)
     ∙ rw (← c.command_of-c.ensures) (still-refused _ c.command_of-c.result c.in_default-c.not-Command))
 
 -- or one, but there are too many keys,
@@ -38,15 +39,15 @@ returns-then-n-gt3 c =
     let allowed : (foldl (judge c.args.s.now) none_judged outer).allowed ≡ true =
     rw (← c.read_fields-f.ensures.judged) (is-allowed c.read_fields-f.result.judged _ _ _ _ (sym c.command_of-c.ensures ∙ c.in-Command.is)) in
     let four_keys : twice (contents c.args.s.now outer) ≡ true = too_many _ _ _ _ (sym c.read_fields-f.ensures.ends ∙ c.in-At.is) allowed c.if-n-gt3.true in
-    sym (map_whole _ _ _ _ _ _ _ c.read_fields-f.ensures c.in-At.is c.if-p-s.false ∙ rw (← c.command_of-c.ensures, four_keys, c.in-Command.is))
+    sym (map_whole _ _ _ _ _ _ _ c.read_fields-f.ensures c.in-At.is (omega arith) ∙ rw (← c.command_of-c.ensures, four_keys, c.in-Command.is))
 
 -- or the outer map's keys were searched
 pub returns-then-row_double : goal.returns-then-row_double
 returns-then-row_double c =
     let t = sym (row-answers _ _ _ _ _ c.read_fields-f.ensures.same) ∙ sym c.row_double.ensures ∙ c.if-row_double.true in
-    sym (map_whole _ _ _ _ _ _ _ c.read_fields-f.ensures c.in-At.is c.if-p-s.false ∙ rw (← c.command_of-c.ensures, t, c.in-Command.is))
+    sym (map_whole _ _ _ _ _ _ _ c.read_fields-f.ensures c.in-At.is (omega arith) ∙ rw (← c.command_of-c.ensures, t, c.in-Command.is))
 
 pub returns : goal.returns
 returns c =
     let t = sym (row-answers _ _ _ _ _ c.read_fields-f.ensures.same) ∙ sym c.row_double.ensures ∙ c.if-row_double.false in
-    sym (map_whole _ _ _ _ _ _ _ c.read_fields-f.ensures c.in-At.is c.if-p-s.false ∙ rw (← c.command_of-c.ensures, t) (still-single _))
+    sym (map_whole _ _ _ _ _ _ _ c.read_fields-f.ensures c.in-At.is (omega arith) ∙ rw (← c.command_of-c.ensures, t) (still-single _))

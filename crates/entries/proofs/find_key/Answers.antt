@@ -1,6 +1,6 @@
 -- `entries::find_key` meets its contract: the search stops at a broken entry, at the key, or goes on with the next.
 -- Assumes nothing.
-use Rattle.std.proofs.Common.{sym, ◌∙◌, arith}
+use Rattle.std.proofs.Common.{◌≡◌, false, sym, ◌∙◌, arith}
 use Rattle.entries.specs.Entries.{find}
 use Rattle.entries.proofs.Walk.{ends, breaks, goes}
 use Rattle.entries.proofs.find_key.Goals as goal
@@ -18,7 +18,8 @@ returns-then-has_key c =
 pub loop-left-preserved : goal.loop-left-preserved
 unfolding find
 loop-left-preserved c =
-    c.loop-left.invariant ∙ rw (goes _ _ _ _ _ _ c.loop-left-test.true c.read_entry-e.ensures c.next_of.ensures _ c.in-At.is, ← c.has_key.ensures, c.if-has_key.false)
+    let no : c.has_key.result ≡ false = cc in
+    c.loop-left.invariant ∙ rw (goes _ _ _ _ _ _ c.loop-left-test.true c.read_entry-e.ensures c.next_of.ensures _ c.in-At.is, ← c.has_key.ensures, no)
 
 pub returns : goal.returns
 unfolding find

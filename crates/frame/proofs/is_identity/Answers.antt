@@ -1,6 +1,6 @@
 -- `frame::is_identity` meets its contract, by the item at the payload's start, its end and its content.
 -- Assumes nothing.
-use Rattle.std.proofs.Common.{◌≡◌, Bool, false, refl}
+use Rattle.std.proofs.Common.{◌≡◌, Bool, false, length, refl, arith}
 use borrow.Author.Tests.{eq-eqb, ne_eqb}
 use Rattle.cbor.proofs.Folds.{by_bytes}
 use Rattle.frame.specs.Settings.{is_identity}
@@ -20,4 +20,4 @@ returns-then-stop-payload c = rw (← c.read_item.ensures, c.in-Bytes.is, ne_eqb
 
 pub returns : goal.returns
 unfolding is_identity
-returns c = rw (← c.read_item.ensures, c.in-Bytes.is, eq-eqb _ _ c.if-stop-payload.false, ← c.part.ensures) c.same_key.ensures
+returns c = rw (← c.read_item.ensures, c.in-Bytes.is, eq-eqb c.in-Bytes.stop (length c.args.payload.now) (omega arith), ← c.part.ensures) c.same_key.ensures

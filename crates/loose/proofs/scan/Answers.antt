@@ -1,6 +1,6 @@
 -- `loose::scan` meets its contract: at every turn what is left to say is the scan from the position reached.
 -- Assumes nothing.
-use Rattle.std.proofs.Common.{ℕ, ◌-◌, ◌<◌, refl, sym, ◌∙◌, arith}
+use Rattle.std.proofs.Common.{◌≡◌, true, ℕ, ◌-◌, ◌<◌, refl, sym, ◌∙◌, arith}
 use Rattle.loose.specs.Scan.{scanned}
 use Rattle.loose.proofs.ScanLaws.{by_first, goes_on, ends, nearer, turn}
 use Rattle.loose.proofs.scan.Goals as goal
@@ -39,7 +39,8 @@ loop-p-smaller c = nearer _ _ c.loop-p-test.true _ c.read_head-h.ensures _ c.beh
 
 pub loop-p-preserved : goal.loop-p-preserved
 loop-p-preserved c =
-    c.loop-p.invariant ∙ turn _ _ c.loop-p-test.true _ c.read_head-h.ensures _ c.is_shortest.ensures ∙ rw (c.if-not-is_shortest.false, c.behind-p.ensures)
+    let shortest : c.is_shortest.result ≡ true = cc in
+    c.loop-p.invariant ∙ turn _ _ c.loop-p-test.true _ c.read_head-h.ensures _ c.is_shortest.ensures ∙ rw (shortest, c.behind-p.ensures)
 
 pub returns : goal.returns
 returns c = sym (c.loop-p.invariant ∙ ends _ _ (omega arith))

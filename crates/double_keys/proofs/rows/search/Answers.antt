@@ -5,8 +5,9 @@ use mathlib.Core.Path.{◌≡◌, sym, ap, ◌∙◌}
 use mathlib.Core.Bool.{false≢true}
 use mathlib.Core.List.{List}
 use Prim.Native.Nat.{ℕ, ◌+◌, ◌/◌, ◌<◌}
-use Rattle.std.proofs.Common.{arith}
+use Rattle.std.proofs.Common.{arith, rules}
 use Rattle.keys.specs.declared.Order.{Order}
+use Rattle.keys.specs.declared.Order.TheVariants.{Before}
 use Rattle.keys.specs.Order.{compare}
 use Rattle.keys.proofs.Before.{at_one}
 use Rattle.double_keys.specs.Search.{key_of}
@@ -33,11 +34,12 @@ loop-low-preserved-in-Before c = (
 )
 
 pub loop-low-preserved : goal.loop-low-preserved
-loop-low-preserved c = (
-  c.loop-low.invariant.0,
-  between-high _ _ _ _ _ c.search.invariant.1.falls _ _ _ c.loop-low.invariant.1 _ (omega (arith, c.loop-low-test.true)) (omega (arith, c.loop-low-test.true))
-      (said _ _ _ _ c.compare-o.ensures c.key_at.ensures ∙ is-after c.compare-o.result c.in_default.not-Same c.in_default-o.not-Before),
-)
+loop-low-preserved c =
+    let before : c.compare-o.result ≡ Before → ⊥ = search rules in (
+      c.loop-low.invariant.0,
+      between-high _ _ _ _ _ c.search.invariant.1.falls _ _ _ c.loop-low.invariant.1 _ (omega (arith, c.loop-low-test.true)) (omega (arith, c.loop-low-test.true))
+          (said _ _ _ _ c.compare-o.ensures c.key_at.ensures ∙ is-after c.compare-o.result c.in_default.not-Same before),
+    )
 
 pub insert-requires : goal.insert-requires
 insert-requires c = (

@@ -120,7 +120,7 @@ returns-4 c =
     let s = c.args in
     let e = l.invariant.0 in
     let m = missing 4 s.first.now l.at.first e.first c.if-at-one.false in
-    let n = missing 4 s.second.now l.at.second e.second c.if-at-two.false in
+    let n = missing 4 s.second.now l.at.second e.second (omega arith) in
     sym (l.invariant.1 ∙ none-there l.at s.first.now s.second.now m n)
 
 pub next_spec : {M : Type 1} → statement M
