@@ -15,6 +15,7 @@ pub fn put(buffer: &mut [u8], at: usize, bytes: &[u8])
     if bytes.len() < n {
         n = bytes.len();
     }
-    let stop = at + n;
-    buffer[at..stop].copy_from_slice(&bytes[..n]);
+    for i in 0..n {
+        buffer[at + i] = bytes[i];
+    }
 }
