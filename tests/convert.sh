@@ -124,6 +124,7 @@ convert_says() {
 name=$(printf '%5000s' | tr ' ' a)
 convert_says "$folder/none: cannot be read: no such file" "$folder/none"
 convert_says '/: cannot be read: it is a folder' /
+convert_says $'a\xff: cannot be read: the name is not UTF-8' $'a\xff'
 convert_says "$folder/log/a: cannot be read: a part of the path is no folder" "$folder/log/a"
 convert_says 'argument 1: cannot be read: the name is empty' ''
 convert_says 'argument 1: cannot be read: the name is too long' "$name"

@@ -1,6 +1,6 @@
 // Converts a stored log: records with two-byte body lengths become records with four-byte ones. The log is standard input, or the file that
-// the one argument names, and the new log goes to standard output. What is wrong is said on standard error: a program of this language
-// cannot set its exit status, which is 0 in any case.
+// the one argument names, and the new log goes to standard output. What is wrong is said on standard error; the exit status
+// is 0 in any case.
 #![tactic(auto)]
 
 mod input;

@@ -31,7 +31,8 @@ pub const ESPIPE: i32 = 29;
 
 const ENAMETOOLONG: i32 = 36;
 
-const EILSEQ: i32 = 84;
+// No number of the system: that a name is not UTF-8.
+const NOT_TEXT: i32 = -2;
 
 // What is read: standard input, or a file that is open.
 #[derive(Drop)]
@@ -105,7 +106,7 @@ pub fn opened(system: &impl Files<File = File>, input: Stdin, name: &[u8]) -> Re
 // A file that is opened for reading. The system's library takes no name that is not UTF-8.
 pub fn opened_file(system: &impl Files<File = File>, name: &[u8]) -> Result<File, i32> {
     let Ok(path) = str::from_utf8(name) else {
-        return Err(EILSEQ);
+        return Err(NOT_TEXT);
     };
     match File::open(system, path) {
         Ok(file) => Ok(file),
@@ -193,7 +194,7 @@ fn reason_row(error: i32) -> usize {
         EISDIR => 4,
         ENOTDIR => 5,
         ESPIPE => 6,
-        EILSEQ => 7,
+        NOT_TEXT => 7,
         _ => 8,
     }
 }

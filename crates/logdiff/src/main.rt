@@ -1,6 +1,6 @@
 // Compares two stored logs record by record, and writes a line to standard output for each record that is not the same in both. Each log is
-// read through for a break first. A log that is at fault is a line there too, and standard error says why it cannot be read: a program of
-// this language cannot set its exit status, which is 0 in any case.
+// read through for a break first. A log that is at fault is a line there too, and standard error says why it cannot be read; the exit
+// status is 0 in any case.
 #![tactic(auto)]
 
 mod compare;

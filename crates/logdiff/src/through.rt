@@ -76,14 +76,14 @@ fn opened(rt: &HostRuntime, name: &[u8]) -> Result<File, i32> {
 }
 
 // Standard input as a file that can be read by place: the system opens it again, under its number, so it has to be a file that may be opened.
-// What cannot be read at all, or has no places, fails as a read by place of the input itself does: a read of no bytes says what is closed, a
+// What has no places, or cannot be read at all, fails as a read by place of the input itself does: a read of no bytes says what is closed, a
 // folder, or open for writing only.
 fn opened_again(rt: &HostRuntime, input: Stdin) -> Result<File, i32> {
-    let mut source = input;
-    files::read(&mut source, &mut [0u8; 0])?;
     if input.is_terminal() | is_pipe(rt) {
         return Err(files::ESPIPE);
     }
+    let mut source = input;
+    files::read(&mut source, &mut [0u8; 0])?;
     files::opened_file(rt, INPUT.as_bytes())
 }
 
