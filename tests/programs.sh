@@ -258,11 +258,10 @@ help=$("$send" --help)
 echo "tests: send and receive together, and what send says of words that are wrong"
 
 # No program calls an allocator.
-for name in receive convert logdiff; do
-    object=target/obj/$name.o
-    [ -s "$object" ]
-    if nm -u "$object" | grep -wE 'malloc|calloc|realloc|free|aligned_alloc|posix_memalign|mmap|brk|sbrk'; then
-        echo "$object calls an allocator"
+for program in target/bin/{receive,convert,logdiff,vectors}; do
+    nm -D -u "$program" >"$out/needs"
+    if grep -wE 'malloc|calloc|realloc|free|aligned_alloc|posix_memalign|mmap|brk|sbrk' "$out/needs"; then
+        echo "$program calls an allocator"
         exit 1
     fi
 done
