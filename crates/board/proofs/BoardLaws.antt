@@ -14,9 +14,11 @@ use Rattle.keys.specs.Keys.{part}
 use Rattle.board.specs.declared.Coil.{Coil}
 use Rattle.board.specs.declared.Board.{Board}
 use Rattle.board.specs.declared.Change.{Change}
-use Rattle.board.specs.declared.Change.TheVariants.{Switch, Label, AllOff, Refused}
-use Rattle.board.specs.Commands.{coil_count, longest_label, change_of, change_number}
-use Rattle.board.specs.Board.{first_coil, first_board, coil_at, with_coil, switched, labelled, all_off, changed, applied, after}
+use Rattle.std.specs.Prelude.{Result, Ok, Err}
+use Rattle.board.specs.declared.Refusal.{Refusal}
+use Rattle.board.specs.declared.Change.TheVariants.{Switch, Label, AllOff}
+use Rattle.board.specs.Commands.{coil_count, longest_label, change_of}
+use Rattle.board.specs.Board.{first_coil, first_board, coil_at, with_coil, switched, labelled, all_off, applied_by, applied, after}
 use Rattle.board.specs.Laws as laws
 use Rattle.board.specs.Laws.{AsksSet, Others, Switched, Labelled, RefusedKeeps, Done, AcceptedDoes, AskedAccepted, Clear, Every, UnusedZero}
 use Rattle.board.proofs.Asked.{Says, says, asks_set, asks-label, asks-off}
@@ -27,11 +29,9 @@ pub refused-keeps : RefusedKeeps
 unfolding applied
 refused-keeps s b = by (change_of s)
   where
-    by : (x : Change) → (change_number x ≡ 0 → ⊥) → changed s x b ≡ b
-    by (Switch i v) h = absurd (h refl)
-    by (Label i start stop) h = absurd (h refl)
-    by AllOff h = absurd (h refl)
-    by (Refused n) h = refl
+    by : (x : Result Change Refusal) → ((applied_by s x b).number ≡ 0 → ⊥) → (applied_by s x b).board ≡ b
+    by (Ok x) h = absurd (h refl)
+    by (Err r) h = refl
 
 -- ---- another coil at a place
 
@@ -81,13 +81,13 @@ pub accepted_does : AcceptedDoes
 unfolding applied
 accepted_does s b sixteen = by (change_of s) (says s)
   where
-    by : (x : Change) → Says s x → change_number x ≡ 0 → Done s b (changed s x b)
-    by (Switch i v) d e = let h = d.asks.coil.below in Done.set i v d.asks d.only (switch_does b i (omega arith) v)
-    by (Label i start stop) d e =
+    by : (x : Result Change Refusal) → Says s x → (applied_by s x b).number ≡ 0 → Done s b (applied_by s x b).board
+    by (Ok (Switch i v)) d e = let h = d.asks.coil.below in Done.set i v d.asks d.only (switch_does b i (omega arith) v)
+    by (Ok (Label i start stop)) d e =
         let h = d.asks.coil.below in
         Done.label i (part s start stop) d.asks d.only (label_does b i (omega arith) (part s start stop) d.asks.fits)
-    by AllOff d e = Done.off d.asks d.only (off_does b)
-    by (Refused n) d e = absurd (d e)
+    by (Ok AllOff) d e = Done.off d.asks d.only (off_does b)
+    by (Err r) d e = absurd (d e)
 
 -- the same, from what a command asks for
 pub set_does : (s : List ℕ) (b : Board) (i : ℕ) (v : Bool) → length b.coils ≡ coil_count → AsksSet s i v → Switched b (applied s b).board i v
@@ -97,9 +97,9 @@ set_does s b i v sixteen a = let h = a.coil.below in rw (asks_set s i v a) (swit
 pub asked-accepted : AskedAccepted
 unfolding applied
 asked-accepted s b = record {
-  set = λ i v a. ap change_number (asks_set s i v a);
-  label = λ i t a. ap change_number (asks-label s i t a);
-  off = λ a. ap change_number (asks-off s a);
+  set = λ i v a. rw (asks_set s i v a);
+  label = λ i t a. rw (asks-label s i t a);
+  off = λ a. rw (asks-off s a);
 }
 
 -- ---- what every command keeps of each coil
@@ -128,11 +128,11 @@ module _ (P : Coil → Type 0) (stays : Stays P) where
   unfolding applied
   applied_every s b k = by (change_of s) (says s)
     where
-      by : (x : Change) → Says s x → Every P (changed s x b)
-      by (Switch i v) d = set_every b i _ k (stays.switched v (coil_at b i) (k.coils i))
-      by (Label i start stop) d = set_every b i _ k (stays.labelled (part s start stop) (coil_at b i) d.asks.fits)
-      by AllOff d = off_every b k
-      by (Refused n) d = k
+      by : (x : Result Change Refusal) → Says s x → Every P (applied_by s x b).board
+      by (Ok (Switch i v)) d = set_every b i _ k (stays.switched v (coil_at b i) (k.coils i))
+      by (Ok (Label i start stop)) d = set_every b i _ k (stays.labelled (part s start stop) (coil_at b i) d.asks.fits)
+      by (Ok AllOff) d = off_every b k
+      by (Err r) d = k
 
   pub after_every : (b : Board) (commands : List (List ℕ)) → Every P b → Every P (after b commands)
   unfolding after

@@ -1,14 +1,14 @@
 -- The board, and what a command changes on it, as document 02, E3, states it. These are definitions: they assume nothing.
-use Rattle.std.specs.Prelude.{ℕ, Bool, false, length, get_or, set, replicate}
+use Rattle.std.specs.Prelude.{ℕ, Result, Ok, Err, Bool, false, length, get_or, set, replicate}
 use mathlib.Core.List.{List, map, foldl}
 use Rattle.buffer.specs.Bytes.{write}
 use Rattle.keys.specs.Keys.{part}
 use Rattle.board.specs.declared.Coil.{Coil}
 use Rattle.board.specs.declared.Board.{Board}
 use Rattle.board.specs.declared.Change.{Change}
-use Rattle.board.specs.declared.Change.TheVariants.{Switch, Label, AllOff, Refused}
-use Rattle.board.specs.declared.Applied.{Applied}
-use Rattle.board.specs.Commands.{coil_count, longest_label, change_of, change_number}
+use Rattle.board.specs.declared.Change.TheVariants.{Switch, Label, AllOff}
+use Rattle.board.specs.declared.Refusal.{Refusal}
+use Rattle.board.specs.Commands.{coil_count, longest_label, refusal_number, change_of}
 
 -- ---- the first board: all off with empty labels
 
@@ -38,16 +38,30 @@ all_off b = record { coils = map (switched false) b.coils }
 
 -- ---- what a command comes to
 
+-- 0 or the refusal number, and the board after it
+pub record Applied : Type 0 where
+  pub number : ℕ
+  pub board : Board
+
+-- the same of an answer on a board: the next board, or the board as it was
+abbrev pub comes_to : Board → Result Board Refusal → Applied
+comes_to b (Ok next) = record { number = 0; board = next }
+comes_to b (Err r) = record { number = refusal_number r; board = b }
+
 module _ (s : List ℕ) where
-  -- the named coil's switch or its label, and nothing else; `off` keeps labels; a refused command leaves the whole board as it was
+  -- the named coil's switch or its label, and nothing else; `off` keeps labels
   abbrev pub changed : Change → Board → Board
   changed (Switch i v) b = with_coil b i (switched v (coil_at b i))
   changed (Label i start stop) b = with_coil b i (labelled (part s start stop) (coil_at b i))
   changed AllOff b = all_off b
-  changed (Refused n) b = b
+
+  -- a refused command leaves the whole board as it was
+  abbrev pub applied_by : Result Change Refusal → Board → Applied
+  applied_by (Ok x) b = record { number = 0; board = changed x b }
+  applied_by (Err r) b = record { number = refusal_number r; board = b }
 
   unfoldable pub applied : Board → Applied
-  applied b = record { number = change_number (change_of s); board = changed (change_of s) b }
+  applied b = applied_by (change_of s) b
 
 -- the board after a list of commands
 unfoldable pub after : Board → List (List ℕ) → Board

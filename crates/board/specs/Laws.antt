@@ -1,10 +1,9 @@
 -- What is proved beside the contracts, each claim under its name in proofs/BoardLaws.antt, and `Only` in proofs/Only.antt: which commands are
 -- accepted, what a command leaves as it was, and what a label's unused places read. These are definitions: they assume nothing.
-use Rattle.std.specs.Prelude.{ℕ, ◌<◌, ◌≤◌, ◌≡◌, List, [], ◌∷◌, Bool, false, pos, length, take, get_or}
+use Rattle.std.specs.Prelude.{ℕ, ◌<◌, ◌≤◌, ◌≡◌, List, [], ◌∷◌, Bool, false, Some, Ok, Err, pos, length, take, get_or}
 use Rattle.keys.specs.Keys.{part, among}
 use Rattle.cbor.specs.declared.Item.TheVariants.{Bytes}
-use Rattle.command.specs.declared.Place.TheVariants.{NotFound}
-use Rattle.command.specs.declared.Number.TheVariants.{Whole}
+use Rattle.command.specs.declared.LookupError.TheVariants.{Absent}
 use Rattle.command.specs.Command.{checked, number_of}
 use Rattle.command.specs.Lookup.{name_of, count_of, argument_at, integer_at}
 use Rattle.board.specs.declared.Coil.{Coil}
@@ -14,9 +13,9 @@ use Rattle.board.specs.Board.{first_board, coil_at, applied, after}
 
 -- ---- what a command says
 
--- each lookup of a key that is not one of these gives 6
+-- each lookup of a key that is not one of these gives 6, the number of `Absent`
 pub record Only (s : List ℕ) (keys : List (List ℕ)) : Type 0 where
-  pub others : (key : List ℕ) → among keys key ≡ false → argument_at s key ≡ NotFound 6
+  pub others : (key : List ℕ) → among keys key ≡ false → argument_at s key ≡ Err Absent
 
 -- a command of this name with so many arguments
 pub record Named (s word : List ℕ) (n : ℕ) : Type 0 where
@@ -26,7 +25,7 @@ pub record Named (s word : List ℕ) (n : ℕ) : Type 0 where
 
 -- `coil` is an integer from 0 to 15
 pub record NamesCoil (s : List ℕ) (i : ℕ) : Type 0 where
-  pub coil : integer_at s coil-key ≡ Whole (pos i)
+  pub coil : integer_at s coil-key ≡ Ok (pos i)
   pub below : i < coil_count
 
 -- `set` of coil i to v; `label` of coil i with the text t; `off`
@@ -40,7 +39,7 @@ pub record AsksLabel (s : List ℕ) (i : ℕ) (t : List ℕ) : Type 0 where
   pub coil : NamesCoil s i
   pub start : ℕ
   pub stop : ℕ
-  pub text : text_item s ≡ Bytes start stop
+  pub text : text_item s ≡ Some (Bytes start stop)
   pub content : part s start stop ≡ t
   pub fits : length t ≤ longest_label
 

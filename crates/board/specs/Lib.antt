@@ -2,3 +2,4 @@ pub mod Commands
 pub mod Board
 pub mod Laws
 pub mod Traces
+pub mod Steps

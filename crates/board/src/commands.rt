@@ -1,174 +1,131 @@
 // What a command asks of the board, by the receiver's check and lookups alone.
 ghost use Rattle.std.specs.Prelude.{◌≡◌};
-ghost use Rattle.board.specs.Commands.{is_integer, coil_named, coil_of, is_switch, is_true, text_item, in_order, set_change, label_change, by_name, change_of, change_number};
+ghost use Rattle.board.specs.Commands.{set_change, label_change, by_name, change_of};
+ghost use Rattle.board.specs.Steps.{switch_in, coil_in, text_place, word_of, takes};
 
-use crate::{COILS, Change, LONGEST_LABEL};
+use crate::{COILS, Change, LONGEST_LABEL, Refusal};
 use cbor::Item;
-use command::{Number, Place};
-use command_map::Checked;
+use command::LookupError;
 
-// How many arguments each command takes.
-const SET_TAKES: u64 = 2;
-
-const LABEL_TAKES: u64 = 2;
-
-const OFF_TAKES: u64 = 0;
-
-// Whether an argument is an integer, of any size: 8 is the lookup's number for one outside 64 bits.
-fn is_integer(z: Number) -> bool
-    ensures { result ≡ is_integer z }
-{
-    let Number::NoNumber(n) = z else {
-        return true;
-    };
-    n == 8
+// The commands' names.
+#[derive(Clone, Copy, PartialEq, Eq)]
+enum Word {
+    Set,
+    Label,
+    Off,
 }
 
-// The coil that an integer names, one past the last where it is not 0 to 15.
-fn coil_named(z: i64) -> usize
-    ensures { result ≡ coil_named z }
-{
-    if (z < 0) | (15 < z) {
-        return COILS;
+impl Word {
+    fn of(name: &[u8]) -> Option<Word>
+        ensures { result ≡ word_of name.now }
+    {
+        if keys::same_key(b"set", name) {
+            Some(Word::Set)
+        } else if keys::same_key(b"label", name) {
+            Some(Word::Label)
+        } else if keys::same_key(b"off", name) {
+            Some(Word::Off)
+        } else {
+            None
+        }
     }
-    z as usize
+
+    // How many arguments the command takes.
+    fn takes(self) -> u64
+        ensures { result ≡ takes self }
+    {
+        match self {
+            Word::Set => 2,
+            Word::Label => 2,
+            Word::Off => 0,
+        }
+    }
 }
 
-// The coil that an argument names, one past the last where it names none.
-fn coil_of(z: Number) -> usize
-    ensures { result ≡ coil_of z }
+// The coil that an argument names; an integer outside 64 bits names none, as each outside 0 to 15.
+#[tactic(auto, unfolding(crate::specs::Steps::coil_in))]
+fn coil_in(z: Result<i64, LookupError>) -> Result<usize, Refusal>
+    ensures { result ≡ coil_in z }
 {
     match z {
-        Number::Whole(n) => coil_named(n),
-        Number::NoNumber(_) => COILS,
+        Ok(n) => match usize::try_from(n) {
+            Ok(coil) if coil < COILS => Ok(coil),
+            _ => Err(Refusal::NoCoil),
+        },
+        Err(LookupError::OutOfRange) => Err(Refusal::NoCoil),
+        Err(_) => Err(Refusal::WrongArgument),
     }
 }
 
-// Whether an item is true.
-fn is_true(item: &[u8]) -> bool
-    ensures { result ≡ is_true item.now }
+// The switch that an item is.
+#[tactic(auto, unfolding(crate::specs::Steps::switch_in, crate::specs::Commands::is_switch, crate::specs::Commands::is_true))]
+fn switch_in(item: &[u8]) -> Result<bool, Refusal>
+    ensures { result ≡ switch_in item.now }
 {
-    keys::same_key(b"\xf5", item)
-}
-
-// Whether an item is true or false.
-fn is_switch(item: &[u8]) -> bool
-    ensures { result ≡ is_switch item.now }
-{
-    if is_true(item) {
-        return true;
+    if keys::same_key(b"\xf5", item) {
+        return Ok(true);
     }
-    keys::same_key(b"\xf4", item)
+    if keys::same_key(b"\xf4", item) {
+        return Ok(false);
+    }
+    Err(Refusal::WrongArgument)
 }
 
-// The item of `text`, refused where it is missing.
-fn text_item(command: &[u8]) -> Item
-    ensures { result ≡ text_item command.now }
+// Where the text of `text` starts and stops, none where it is missing or no byte string.
+#[tactic(auto, unfolding(crate::specs::Commands::text_item, crate::specs::Steps::text_place))]
+fn text_place(command: &[u8]) -> Option<(usize, usize)>
+    ensures { result ≡ text_place command.now }
 {
-    let Place::Found(start, _) = command::argument_at(command, b"text") else {
-        return Item::Refused;
+    let place = command::argument_at(command, b"text").ok()?;
+    let Item::Bytes(start, stop) = cbor::read_item(command, place.start)? else {
+        return None;
     };
-    cbor::read_item(command, start)
+    Some((start, stop))
 }
 
-// The change, unless a refusal applies: 41 an argument missing or of the wrong type, 42 no such coil, 43 a text too long, in this order.
-fn in_order(typed: bool, there: bool, fits: bool, change: Change) -> Change
-    ensures { result ≡ in_order typed there fits change }
-{
-    if !typed {
-        Change::Refused(41)
-    } else if !there {
-        Change::Refused(42)
-    } else if !fits {
-        Change::Refused(43)
-    } else {
-        change
-    }
-}
-
-// What `set` asks for.
-fn set_change(command: &[u8]) -> Change
+// What `set` asks for: first the arguments' types are judged, and then the coil.
+fn set_change(command: &[u8]) -> Result<Change, Refusal>
     ensures { result ≡ set_change command.now }
 {
-    let z = command::integer_at(command, b"coil");
-    let on = command::argument(command, b"on");
-    let coil = coil_of(z);
-    let typed = is_integer(z) & is_switch(on);
-    in_order(typed, coil < COILS, true, Change::Switch(coil, is_true(on)))
+    let on = switch_in(command::argument(command, b"on"))?;
+    let coil = coil_in(command::integer_at(command, b"coil"))?;
+    Ok(Change::Switch(coil, on))
 }
 
-// What `label` asks for.
-fn label_change(command: &[u8]) -> Change
+// What `label` asks for: first the arguments' types are judged, then the coil, and then the text's length.
+fn label_change(command: &[u8]) -> Result<Change, Refusal>
     ensures { result ≡ label_change command.now }
 {
-    let z = command::integer_at(command, b"coil");
-    let coil = coil_of(z);
-    let item = text_item(command);
-    match item {
-        Item::Bytes(start, stop) => {
-            let text = keys::part(command, start, stop);
-            let fits = text.len() <= LONGEST_LABEL;
-            in_order(
-                is_integer(z),
-                coil < COILS,
-                fits,
-                Change::Label(coil, start, stop),
-            )
-        }
-        _ => Change::Refused(41),
+    let (start, stop) = text_place(command).ok_or(Refusal::WrongArgument)?;
+    let coil = coil_in(command::integer_at(command, b"coil"))?;
+    let text = keys::part(command, start, stop);
+    if LONGEST_LABEL < text.len() {
+        return Err(Refusal::LongText);
     }
+    Ok(Change::Label(coil, start, stop))
 }
 
-// What a command of this name, with so many arguments, asks for; 40 is an unknown command. Arguments are looked up only where there are as
-// many as the command takes, so that many of them cost no more than their check.
+// What a command of this name, with so many arguments, asks for. Arguments are looked up only where there are as many as the command takes,
+// so that many of them cost no more than their check.
 #[tactic(auto, unfolding(crate::specs::Commands::by_name))]
-fn by_name(command: &[u8], name: &[u8], count: u64) -> Change
+fn by_name(command: &[u8], name: &[u8], count: u64) -> Result<Change, Refusal>
     ensures { result ≡ by_name command.now name.now count }
 {
-    if keys::same_key(b"set", name) {
-        if count != SET_TAKES {
-            return Change::Refused(41);
-        }
-        return set_change(command);
+    let word = Word::of(name).ok_or(Refusal::UnknownCommand)?;
+    if count != word.takes() {
+        return Err(Refusal::WrongArgument);
     }
-    if keys::same_key(b"label", name) {
-        if count != LABEL_TAKES {
-            return Change::Refused(41);
-        }
-        return label_change(command);
+    match word {
+        Word::Set => set_change(command),
+        Word::Label => label_change(command),
+        Word::Off => Ok(Change::AllOff),
     }
-    if keys::same_key(b"off", name) {
-        if count != OFF_TAKES {
-            return Change::Refused(41);
-        }
-        return Change::AllOff;
-    }
-    Change::Refused(40)
 }
 
-// What a command asks for; the check's number comes first.
-pub(crate) fn change_of(command: &[u8]) -> Change
+// What a command asks for; the check's refusal comes first.
+pub(crate) fn change_of(command: &[u8]) -> Result<Change, Refusal>
     ensures { result ≡ change_of command.now }
 {
-    let c = command::check(command);
-    let Checked::Command {
-        start,
-        stop,
-        count,
-        first: _,
-    } = c
-    else {
-        return Change::Refused(command::refusal(c));
-    };
-    by_name(command, keys::part(command, start, stop), count)
-}
-
-// The number of a change: 0 unless it is a refusal.
-pub(crate) fn number_of(change: Change) -> u32
-    ensures { result ≡ change_number change }
-{
-    let Change::Refused(n) = change else {
-        return 0;
-    };
-    n
+    let c = command::check(command)?;
+    by_name(command, keys::part(command, c.start, c.stop), c.count)
 }

@@ -4,7 +4,9 @@
 mod commands;
 
 ghost use Rattle.std.specs.Prelude.{◌≡◌};
-ghost use Rattle.board.specs.Board.{first_coil, first_board, switched, labelled, coil_at, with_coil, all_off, changed, applied};
+ghost use Rattle.board.specs.Board.{first_coil, first_board, switched, labelled, coil_at, with_coil, all_off, changed, comes_to, applied};
+ghost use Rattle.board.specs.Commands.{refusal_number};
+ghost use Rattle.board.specs.declared.Refusal.TheVariants.{NoCommand};
 
 // How many coils there are, and how long a label may be.
 pub const COILS: usize = 16;
@@ -12,6 +14,7 @@ pub const COILS: usize = 16;
 pub const LONGEST_LABEL: usize = 16;
 
 // A coil: whether it is on, and its label, of whose sixteen places the first `length` are used.
+// Stays an array with a length: there is no heap, and `Clear` in specs/Laws.antt speaks of both.
 #[derive(Clone, Copy)]
 pub struct Coil {
     pub on: bool,
@@ -26,20 +29,45 @@ pub struct Board {
 }
 
 // What a command asks for: a coil's switch; a coil's label, with the places where the text starts and stops in the command's bytes; all coils
-// off; or nothing, by its refusal number.
+// off.
+// Stays two places and no slice: `changed` and `AsksLabel` in specs/ speak of a text by its places.
 #[derive(Clone, Copy)]
 enum Change {
     Switch(usize, bool),
     Label(usize, usize, usize),
     AllOff,
-    Refused(u32),
 }
 
-// What a command comes to: 0 or the refusal number, and the board after it.
-#[derive(Clone, Copy)]
-pub struct Applied {
-    pub number: u32,
-    pub board: Board,
+// Why a command is refused: the check's refusal, an unknown command, an argument missing or of the wrong type, no such coil, a text too long.
+#[derive(Clone, Copy, Debug, PartialEq, Eq)]
+pub enum Refusal {
+    NoCommand(command_map::Refusal),
+    UnknownCommand,
+    WrongArgument,
+    NoCoil,
+    LongText,
+}
+
+impl From<command_map::Refusal> for Refusal {
+    ghost from_gives = { λ x r. r ≡ NoCommand x };
+
+    fn from(refusal: command_map::Refusal) -> Refusal {
+        Refusal::NoCommand(refusal)
+    }
+}
+
+impl From<Refusal> for u32 {
+    ghost from_gives = { λ r n. n ≡ refusal_number r };
+
+    fn from(r: Refusal) -> u32 {
+        match r {
+            Refusal::NoCommand(x) => x.number(),
+            Refusal::UnknownCommand => 40,
+            Refusal::WrongArgument => 41,
+            Refusal::NoCoil => 42,
+            Refusal::LongText => 43,
+        }
+    }
 }
 
 impl Coil {
@@ -47,11 +75,10 @@ impl Coil {
     fn first() -> Coil
         ensures { result ≡ first_coil }
     {
-        let label = [0u8; 16];
         Coil {
             on: false,
             length: 0,
-            label,
+            label: [0; 16],
         }
     }
 
@@ -59,12 +86,7 @@ impl Coil {
     fn switched(self, on: bool) -> Coil
         ensures { result ≡ switched on self }
     {
-        let label = self.label;
-        Coil {
-            on,
-            length: self.length,
-            label,
-        }
+        Coil { on, ..self }
     }
 
     // The coil with this label, and 0 in the places past it.
@@ -74,56 +96,49 @@ impl Coil {
         let mut label = [0u8; 16];
         buffer::put(&mut label, 0, text);
         Coil {
-            on: self.on,
             length: text.len(),
             label,
+            ..self
         }
     }
 }
 
 impl Board {
     // All off, with empty labels.
+    #[tactic(auto, unfolding(crate::specs::Board::first_board))]
     pub fn first() -> Board
         ensures { result ≡ first_board }
     {
-        let coil = Coil::first();
-        let coils = [coil; 16];
-        Board { coils }
+        Board {
+            coils: [Coil::first(); 16],
+        }
     }
 
     // The coil at a place, the first board's where there is none.
+    // Stays without an Option: it could not fail, and `coil_at` in specs/Board.antt says what it answers.
     pub fn coil_at(self, i: usize) -> Coil
         ensures { result ≡ coil_at self i }
     {
-        let coils = self.coils;
-        if i < COILS {
-            return coils[i];
-        }
-        Coil::first()
+        self.coils.get(i).copied().unwrap_or(Coil::first())
     }
 
     // The board with another coil at a place; as it is where there is none.
-    fn with_coil(self, i: usize, c: Coil) -> Board
+    fn with_coil(mut self, i: usize, c: Coil) -> Board
         ensures { result ≡ with_coil self i c }
     {
-        let mut coils = self.coils;
         if i < COILS {
-            coils[i] = c;
+            self.coils[i] = c;
         }
-        Board { coils }
+        self
     }
 
     // The board with every coil off.
     fn all_off(self) -> Board
         ensures { result ≡ all_off self }
     {
-        let mut coils = self.coils;
-        let mut i: usize = 0;
-        while i < COILS {
-            coils[i] = coils[i].switched(false);
-            i += 1;
+        Board {
+            coils: self.coils.map(|c| c.switched(false)),
         }
-        Board { coils }
     }
 
     // The board after a change that a command asks for.
@@ -137,17 +152,14 @@ impl Board {
                 self.with_coil(i, self.coil_at(i).labelled(text))
             }
             Change::AllOff => self.all_off(),
-            Change::Refused(_) => self,
         }
     }
 
-    // What a command comes to on this board: its refusal number, and the board as it was; or 0, and the board changed.
-    pub fn apply(self, command: &[u8]) -> Applied
-        ensures { result ≡ applied command.now self }
+    // The board after a command, or why the command is refused; a refused command changes nothing.
+    pub fn apply(self, command: &[u8]) -> Result<Board, Refusal>
+        ensures { comes_to self result ≡ applied command.now self }
     {
-        let change = commands::change_of(command);
-        let number = commands::number_of(change);
-        let board = self.changed(command, change);
-        Applied { number, board }
+        let change = commands::change_of(command)?;
+        Ok(self.changed(command, change))
     }
 }

@@ -1,12 +1,14 @@
-// The board in bytes: whether bytes are a board's, the board of bytes, and the bytes of a board. A coil is read or put at its place.
+// The board in bytes: whether bytes are a board's, the board of bytes, and the bytes of a board.
 #![tactic(auto)]
 
-ghost use Rattle.std.specs.Prelude.{◌≡◌, ◌+◌, ◌≤◌, length, drop};
-ghost use Rattle.buffer.specs.Bytes.{write};
-ghost use Rattle.fields.specs.Fields.{get_all, good_all, put_all};
-ghost use Rattle.board_layout.specs.BoardBytes.{coil, board_length, is_board, board_from, board_into};
+ghost use Rattle.std.specs.Prelude.{◌≡◌, suc, refl};
+ghost use Rattle.std.proofs.Common.{rules};
+ghost use Rattle.fields.specs.Fields.{read};
+ghost use Rattle.fields.proofs.Local.{choice_local, bytes_local, both_local, many_local, standing_local};
+ghost use Rattle.board_layout.specs.BoardBytes.{coil, board, decode, is_board, board_from, board_into};
 
 use board::{Board, Coil};
+use fields::Field;
 
 // Where each part of a coil stands in the coil's bytes, and how many there are.
 const ON: usize = 0;
@@ -22,120 +24,108 @@ pub const BOARD: usize = board::COILS * COIL;
 // How many lengths a label may have.
 const LENGTHS: u8 = 17;
 
-// ---- bytes to a board
+// A coil: its switch, its label's length and its label.
+struct CoilField;
 
-// The number of a byte.
-fn number(byte: u8) -> usize
-    ensures { result ≡ byte }
-{
-    byte as usize
-}
+impl Field<COIL> for CoilField {
+    type Value = Coil;
 
-// The coil in the bytes from a place on.
-fn coil_at(b: &[u8], at: usize) -> Coil
-    requires { at + coil.width ≤ length b.now }
-    ensures { result ≡ coil.get (drop at b.now) }
-{
-    let mut label = [0u8; 16];
-    buffer::put(&mut label, 0, &b[at + LABEL..at + COIL]);
-    Coil {
-        on: b[at + ON] == 1,
-        length: number(b[at + LENGTH]),
-        label,
+    ghost field = { coil };
+
+    fn get(b: &[u8; COIL]) -> Coil {
+        let mut label = [0u8; board::LONGEST_LABEL];
+        label.copy_from_slice(&b[LABEL..]);
+        Coil {
+            on: b[ON] == 1,
+            length: b[LENGTH] as usize,
+            label,
+        }
     }
-}
 
-fn coils_of(b: &[u8]) -> [Coil; 16]
-    requires { board_length ≤ length b.now }
-    ensures { result ≡ get_all coil 16 b.now }
-{
-    let first = Board::first();
-    let mut coils = first.coils;
-    let mut i: usize = 0;
-    while i < board::COILS {
-        coils[i] = coil_at(b, COIL * i);
-        i += 1;
+    fn is_good(b: &[u8; COIL]) -> bool {
+        (b[ON] < 2) & (b[LENGTH] < LENGTHS)
     }
-    coils
-}
 
-// The board of its bytes, and the first board where there are more or fewer of them.
-pub fn board_of(b: &[u8]) -> Board
-    ensures { result ≡ board_from b.now }
-{
-    if b.len() != BOARD {
-        return Board::first();
+    fn put(x: Coil) -> [u8; COIL] {
+        let mut b = [0u8; COIL];
+        b[ON] = x.on as u8;
+        b[LENGTH] = (x.length % 256) as u8;
+        buffer::put(&mut b, LABEL, &x.label);
+        b
     }
-    let coils = coils_of(b);
-    Board { coils }
+
+    ghost width = { refl };
+
+    ghost some = { Prim.search rules };
+
+    ghost fits = { Prim.search rules };
+
+    ghost local = { Prim.search (choice_local, bytes_local, both_local, standing_local) depth 20 };
 }
 
-// ---- which bytes are a board's
+// A board: its coils.
+struct BoardField;
 
-// Whether the bytes from a place on are a coil's.
-fn is_coil(b: &[u8], at: usize) -> bool
-    requires { at + coil.width ≤ length b.now }
-    ensures { result ≡ coil.good (drop at b.now) }
-{
-    (b[at + ON] < 2) & (b[at + LENGTH] < LENGTHS)
-}
+impl Field<BOARD> for BoardField {
+    type Value = Board;
 
-fn are_coils(b: &[u8]) -> bool
-    requires { board_length ≤ length b.now }
-    ensures { result ≡ good_all coil 16 b.now }
-{
-    let mut good = true;
-    let mut left: usize = board::COILS;
-    let mut at: usize = 0;
-    while 0 < left {
-        good = good & is_coil(b, at);
-        left -= 1;
-        at += COIL;
+    ghost field = { board };
+
+    fn get(b: &[u8; BOARD]) -> Board {
+        let first = Board::first().coil_at(0);
+        Board {
+            coils: fields::get_all::<CoilField, COIL, 16>(first, b),
+        }
     }
-    good
+
+    fn is_good(b: &[u8; BOARD]) -> bool {
+        fields::are_good::<CoilField, COIL>(b)
+    }
+
+    fn put(x: Board) -> [u8; BOARD] {
+        let mut b = [0u8; BOARD];
+        let coils = fields::put_all::<CoilField, COIL, 16>(&x.coils);
+        buffer::put(&mut b, 0, coils.as_flattened());
+        b
+    }
+
+    ghost width = { refl };
+
+    ghost some = { Prim.search rules };
+
+    ghost fits = { Prim.search rules };
+
+    ghost local = { Prim.search (choice_local, bytes_local, both_local, many_local, standing_local) depth 20 };
 }
 
 // Whether bytes are a board's.
+#[tactic(auto, unfolding(crate::specs::BoardBytes::is_board))]
 pub fn is_board(b: &[u8]) -> bool
     ensures { result ≡ is_board b.now }
 {
-    if b.len() != BOARD {
-        return false;
-    }
-    are_coils(b)
+    fields::is_value::<BoardField, BOARD>(b)
 }
 
-// ---- a board to bytes
-
-// Puts a coil into the bytes from a place on.
-fn put_coil(b: &mut [u8], at: usize, x: Coil)
-    requires { at + coil.width ≤ length b.old }
-    ensures { (b.new ≡ write b.old at (coil.put x)) × (length x.label ≡ 16) }
+// The board of its bytes, and the first board where there are more or fewer of them.
+#[tactic(auto, unfolding(crate::specs::BoardBytes::board_from))]
+pub fn board_of(b: &[u8]) -> Board
+    ensures { result ≡ board_from b.now }
 {
-    let label = x.label;
-    b[at + ON] = x.on as u8;
-    b[at + LENGTH] = (x.length % 256) as u8;
-    buffer::put(b, at + LABEL, &label);
+    fields::value_from::<BoardField, BOARD>(Board::first(), b)
 }
 
-fn put_coils(b: &mut [u8], coils: [Coil; 16])
-    requires { length b.old ≡ board_length }
-    ensures { b.new ≡ put_all coil coils }
+// The board of its bytes, if they are a board's.
+#[tactic(auto, unfolding(crate::specs::BoardBytes::decode))]
+pub fn read(b: &[u8]) -> Option<Board>
+    ensures { read result ≡ decode b.now }
 {
-    let mut i: usize = 0;
-    while i < board::COILS {
-        put_coil(b, COIL * i, coils[i]);
-        i += 1;
-    }
+    fields::read::<BoardField, BOARD>(b)
 }
 
 // Puts a board into its bytes; where there are more or fewer of them, they stay as they are.
+#[tactic(auto, unfolding(crate::specs::BoardBytes::board_into))]
 pub fn put_board(b: &mut [u8], x: Board)
     ensures { b.new ≡ board_into b.old x }
 {
-    if b.len() != BOARD {
-        return;
-    }
-    let coils = x.coils;
-    put_coils(b, coils);
+    fields::value_into::<BoardField, BOARD>(b, x);
 }

@@ -13,8 +13,8 @@ use Rattle.cbor.specs.Cbor.{width, shortest, big_endian, head_value, head_of, he
 use Rattle.frame.specs.Limits.{max_payload}
 use Rattle.cbor.specs.Heads.{big_bytes, head_bytes, string_bytes}
 use Rattle.entries.specs.Entries.{entry_at, entries, find}
-use Rattle.command.specs.declared.Number.{Number}
-use Rattle.command.specs.declared.Number.TheVariants.{Whole}
+use Rattle.std.specs.Prelude.{Result, Ok, ℤ}
+use Rattle.command.specs.declared.LookupError.{LookupError}
 use Rattle.command.specs.Lookup.{part_at, integer_in}
 use Rattle.rules.specs.Rules.{command_byte}
 use Rattle.session.specs.Session.{Call, Outcome, took, session, events}
@@ -103,14 +103,14 @@ set-switches how pairs i v with-data bytes out r b fits ready sixteen p h cs e =
 
 -- what the lookups give of the pairs
 record Said : Type 0 where
-  coil : Number
+  coil : Result ℤ LookupError
   on : List ℕ
 
 abbrev said : ℕ → Bool → Said
 said i v = record { coil = integer_in (set_pairs i v) (place_in (set_pairs i v) 2 coil-key); on = part_at (set_pairs i v) (place_in (set_pairs i v) 2 on-key) }
 
 abbrev meant : ℕ → Bool → Said
-meant i v = record { coil = Whole (pos i); on = switch_item v }
+meant i v = record { coil = Ok (pos i); on = switch_item v }
 
 -- the numbers from k on, n of them
 abbrev from : ℕ → ℕ → List ℕ

@@ -1,9 +1,8 @@
 -- The whole way from a laptop to a coil: a command is sent (E2), its bytes are fed in any pieces, and the board applies each command of the
 -- records (E3). What the laptop asked for is what the coil does. Each claim is proved under its name in proofs/BoardSession.antt.
 -- These are definitions: they assume nothing.
-use Rattle.std.specs.Prelude.{ℕ, ◌+◌, ◌*◌, ◌<◌, ◌≡◌, Bool, cond, List, [], ◌∷◌, ◌++◌, map, eqb, pos, length, drop}
+use Rattle.std.specs.Prelude.{ℕ, ◌+◌, ◌*◌, ◌<◌, ◌≡◌, Ok, Bool, cond, List, [], ◌∷◌, ◌++◌, map, eqb, pos, length, drop}
 use Rattle.cbor.specs.Heads.{head_bytes, string_bytes}
-use Rattle.command.specs.declared.Number.TheVariants.{Whole}
 use Rattle.command.specs.Lookup.{part_at, integer_in}
 use Rattle.logs.specs.Logs.{Stored, records}
 use Rattle.session.specs.Session.{Call, took, uncut, session, events}
@@ -63,7 +62,7 @@ SentApplied =
 
 -- two pairs, in any order and with heads of any width, that ask for coil i to be switched to v
 pub record PairsAsk (pairs : List ℕ) (i : ℕ) (v : Bool) : Type 0 where
-  pub coil : integer_in pairs (place_in pairs 2 coil-key) ≡ Whole (pos i)
+  pub coil : integer_in pairs (place_in pairs 2 coil-key) ≡ Ok (pos i)
   pub below : i < coil_count
   pub on : part_at pairs (place_in pairs 2 on-key) ≡ switch_item v
 

@@ -11,10 +11,8 @@ pub fn put(buffer: &mut [u8], at: usize, bytes: &[u8])
     if buffer.len() <= at {
         return;
     }
-    let mut n = buffer.len() - at;
-    if bytes.len() < n {
-        n = bytes.len();
-    }
+    let n = bytes.len().min(buffer.len() - at);
+    // Stays a loop: the library's copy of slices calls C's memmove, and the archives need memcpy and memset alone.
     for i in 0..n {
         buffer[at + i] = bytes[i];
     }

@@ -1,6 +1,7 @@
 -- The shortest head reads as what it was written for, no head that reads so is shorter, and a head that was read is the shortest exactly if
 -- it is as long. One law for every width.
 -- Assumes nothing.
+use Rattle.std.specs.Prelude.{Some}
 use mathlib.Core.Path.{◌≡◌, refl, sym, ap, ◌∙◌}
 use mathlib.Core.Bool.{Bool, true, false, cond}
 use mathlib.Core.List.{List, [], ◌∷◌, ◌++◌, append_assoc}
@@ -225,24 +226,24 @@ shortest-told s at =
         by false e = sym (ne_eqb (at + c) (at + 1 + a) (λ z. eqb-false a b e (omega arith)))
 
 -- A written byte string, and a written map's head, read behind a prefix.
-string-front : (k rest : List ℕ) → length k < 2 ^ 64 → item_at (string_bytes k ++ rest) 0 ≡ Bytes (length (head_bytes 2 (length k))) (length (string_bytes k))
+string-front : (k rest : List ℕ) → length k < 2 ^ 64 → item_at (string_bytes k ++ rest) 0 ≡ Some (Bytes (length (head_bytes 2 (length k))) (length (string_bytes k)))
 unfolding item_at string_bytes bytes_at
 string-front k rest h =
     let head : List ℕ = head_bytes 2 (length k) in
     let fits : length head + length k ≤ length (head ++ (k ++ rest)) = omega (arith, length-append head (k ++ rest), length-append k rest) in
     rw (append_assoc head k rest, head-back 2 (length k) (k ++ rest) h, le-ltb _ _ fits, length-append head k)
 
-pub string-at : (p k rest : List ℕ) → length k < 2 ^ 64 → item_at (p ++ (string_bytes k ++ rest)) (length p) ≡ Bytes (length p + length (head_bytes 2 (length k))) (length p + length (string_bytes k))
+pub string-at : (p k rest : List ℕ) → length k < 2 ^ 64 → item_at (p ++ (string_bytes k ++ rest)) (length p) ≡ Some (Bytes (length p + length (head_bytes 2 (length k))) (length p + length (string_bytes k)))
 string-at p k rest h =
     ap (item_at (p ++ (string_bytes k ++ rest))) (sym (add-zero (length p)))
     ∙ item_shift p (string_bytes k ++ rest) 0
     ∙ ap (shifted_item (length p)) (string-front k rest h)
 
-map-front : (n : ℕ) (rest : List ℕ) → n < 2 ^ 64 → item_at (head_bytes 5 n ++ rest) 0 ≡ Map n (length (head_bytes 5 n))
+map-front : (n : ℕ) (rest : List ℕ) → n < 2 ^ 64 → item_at (head_bytes 5 n ++ rest) 0 ≡ Some (Map n (length (head_bytes 5 n)))
 unfolding item_at
 map-front n rest h = rw (head-back 5 n rest h)
 
-pub map_at : (p : List ℕ) (n : ℕ) (rest : List ℕ) → n < 2 ^ 64 → item_at (p ++ (head_bytes 5 n ++ rest)) (length p) ≡ Map n (length p + length (head_bytes 5 n))
+pub map_at : (p : List ℕ) (n : ℕ) (rest : List ℕ) → n < 2 ^ 64 → item_at (p ++ (head_bytes 5 n ++ rest)) (length p) ≡ Some (Map n (length p + length (head_bytes 5 n)))
 map_at p n rest h =
     ap (item_at (p ++ (head_bytes 5 n ++ rest))) (sym (add-zero (length p)))
     ∙ item_shift p (head_bytes 5 n ++ rest) 0

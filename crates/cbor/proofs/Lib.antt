@@ -1,6 +1,6 @@
 -- What the proofs of several functions use.
 pub mod Width
-pub mod Repeat
+pub mod Turns
 pub mod Others
 pub mod Ahead
 pub mod Folds

@@ -1,6 +1,7 @@
 -- Reading behind a prefix: what is read at a position of s is read in p ++ s that many places further on. One law for each reader; a
 -- `shifted` moves the positions of what was found.
 -- Assumes nothing.
+use Rattle.std.specs.Prelude.{Option, None, Some}
 use mathlib.Core.Path.{◌≡◌, refl}
 use mathlib.Core.Bool.{Bool, true, false, cond}
 use mathlib.Core.List.{List, ◌++◌}
@@ -12,32 +13,29 @@ use lib.Seq.{get_or-append-add}
 use lib.Dec.{ltb, leb, eqb}
 use borrow.Author.Tests.{ltb-true, ltb-false, lt-ltb, le-ltb, eqb-true, eqb-false, eq-eqb, ne_eqb}
 use Rattle.cbor.specs.declared.Head.{Head}
-use Rattle.cbor.specs.declared.Head.TheVariants.{Of, Broken}
 use Rattle.cbor.specs.declared.Item.{Item}
-use Rattle.cbor.specs.declared.Item.TheVariants.{Unsigned, Negative, Bytes, Simple, Array, Map, Set, Refused}
-use Rattle.cbor.specs.declared.Next.{Next}
-use Rattle.cbor.specs.declared.Next.TheVariants.{At, Bad}
+use Rattle.cbor.specs.declared.Item.TheVariants.{Unsigned, Negative, Bytes, Simple, Array, Map, Set}
 use Rattle.cbor.specs.Cbor.{Reader, width, big_endian, head_value, head_of, head_at, bytes_at, simple, set_of, tagged, item_of, item_at, and_then, repeat, scalar_of, key, pair, value_of, value, whole}
 
 -- positions n places further on
 module _ (n : ℕ) where
-  abbrev pub shifted_head : Head → Head
-  shifted_head Broken = Broken
-  shifted_head (Of major info v next) = Of major info v (n + next)
+  abbrev pub shifted_head : Option Head → Option Head
+  shifted_head None = None
+  shifted_head (Some h) = Some (record h { next = n + h.next })
 
-  abbrev pub shifted_item : Item → Item
-  shifted_item (Unsigned v next) = Unsigned v (n + next)
-  shifted_item (Negative v next) = Negative v (n + next)
-  shifted_item (Bytes start stop) = Bytes (n + start) (n + stop)
-  shifted_item (Simple next) = Simple (n + next)
-  shifted_item (Array k at) = Array k (n + at)
-  shifted_item (Map k at) = Map k (n + at)
-  shifted_item (Set k at) = Set k (n + at)
-  shifted_item Refused = Refused
+  abbrev pub shifted_item : Option Item → Option Item
+  shifted_item (Some (Unsigned v next)) = Some (Unsigned v (n + next))
+  shifted_item (Some (Negative v next)) = Some (Negative v (n + next))
+  shifted_item (Some (Bytes start stop)) = Some (Bytes (n + start) (n + stop))
+  shifted_item (Some (Simple next)) = Some (Simple (n + next))
+  shifted_item (Some (Array k at)) = Some (Array k (n + at))
+  shifted_item (Some (Map k at)) = Some (Map k (n + at))
+  shifted_item (Some (Set k at)) = Some (Set k (n + at))
+  shifted_item None = None
 
-  abbrev pub shifted : Next → Next
-  shifted (At p) = At (n + p)
-  shifted Bad = Bad
+  abbrev pub shifted : Option ℕ → Option ℕ
+  shifted (Some p) = Some (n + p)
+  shifted None = None
 
 -- a function of a choice, where it is known of both
 pub of_both : {A B : Type 0} (f : A → B) (b : Bool) {x y : A} {x' y' : B} → x' ≡ f x → y' ≡ f y → cond b x' y' ≡ f (cond b x y)
@@ -91,9 +89,9 @@ module _ (p s : List ℕ) where
   unfolding bytes_at
   bytes_shift n at = rw (add_assoc past at n, fits_shift (at + n)) (of_both (shifted_item past) (ltb (length s) (at + n)) refl refl)
 
-  set_shift : (h : Head) → set_of (shifted_head past h) ≡ shifted_item past (set_of h)
-  set_shift Broken = refl
-  set_shift (Of major info v next) = of_both (shifted_item past) (eqb major 4) refl refl
+  set_shift : (h : Option Head) → set_of (shifted_head past h) ≡ shifted_item past (set_of h)
+  set_shift None = refl
+  set_shift (Some h) = of_both (shifted_item past) (eqb h.major 4) refl refl
 
   tag_shift : (n at : ℕ) → tagged (p ++ s) n (past + at) ≡ shifted_item past (tagged s n at)
   unfolding tagged
@@ -102,16 +100,16 @@ module _ (p s : List ℕ) where
   simple_shift : (info next : ℕ) → simple info (past + next) ≡ shifted_item past (simple info next)
   simple_shift info next = of_both (shifted_item past) (leb 20 info) (of_both (shifted_item past) (leb info 22) refl refl) refl
 
-  item_of_shift : (h : Head) → item_of (p ++ s) (shifted_head past h) ≡ shifted_item past (item_of s h)
-  item_of_shift Broken = refl
-  item_of_shift (Of major info n next) =
-      of_both (shifted_item past) (eqb major 0) refl
-      (of_both (shifted_item past) (eqb major 1) refl
-      (of_both (shifted_item past) (eqb major 2) (bytes_shift n next)
-      (of_both (shifted_item past) (eqb major 4) refl
-      (of_both (shifted_item past) (eqb major 5) refl
-      (of_both (shifted_item past) (eqb major 6) (tag_shift n next)
-      (of_both (shifted_item past) (eqb major 7) (simple_shift info next) refl))))))
+  item_of_shift : (h : Option Head) → item_of (p ++ s) (shifted_head past h) ≡ shifted_item past (item_of s h)
+  item_of_shift None = refl
+  item_of_shift (Some h) =
+      of_both (shifted_item past) (eqb h.major 0) refl
+      (of_both (shifted_item past) (eqb h.major 1) refl
+      (of_both (shifted_item past) (eqb h.major 2) (bytes_shift h.value h.next)
+      (of_both (shifted_item past) (eqb h.major 4) refl
+      (of_both (shifted_item past) (eqb h.major 5) refl
+      (of_both (shifted_item past) (eqb h.major 6) (tag_shift h.value h.next)
+      (of_both (shifted_item past) (eqb h.major 7) (simple_shift h.info h.next) refl))))))
 
   pub item_shift : (at : ℕ) → item_at (p ++ s) (past + at) ≡ shifted_item past (item_at s at)
   unfolding item_at
@@ -121,23 +119,23 @@ module _ (p s : List ℕ) where
   pub record Shifts (r' r : Reader) : Type 0 where
     pub shift : (at : ℕ) → r' (past + at) ≡ shifted past (r at)
 
-  scalar_shift : (x : Item) → scalar_of (shifted_item past x) ≡ shifted past (scalar_of x)
-  scalar_shift (Unsigned n next) = refl
-  scalar_shift (Negative n next) = refl
-  scalar_shift (Bytes start stop) = refl
-  scalar_shift (Simple next) = refl
-  scalar_shift (Array n at) = refl
-  scalar_shift (Map n at) = refl
-  scalar_shift (Set n at) = refl
-  scalar_shift Refused = refl
+  scalar_shift : (x : Option Item) → scalar_of (shifted_item past x) ≡ shifted past (scalar_of x)
+  scalar_shift (Some (Unsigned n next)) = refl
+  scalar_shift (Some (Negative n next)) = refl
+  scalar_shift (Some (Bytes start stop)) = refl
+  scalar_shift (Some (Simple next)) = refl
+  scalar_shift (Some (Array n at)) = refl
+  scalar_shift (Some (Map n at)) = refl
+  scalar_shift (Some (Set n at)) = refl
+  scalar_shift None = refl
 
   pub key_shifts : Shifts (key (p ++ s)) (key s)
   unfolding key
   key_shifts = record { shift = λ at. rw (item_shift at) (scalar_shift (item_at s at)) }
 
-  then_shift : {r' r : Reader} → Shifts r' r → (x : Next) → and_then (shifted past x) r' ≡ shifted past (and_then x r)
-  then_shift h Bad = refl
-  then_shift h (At q) = h.shift q
+  then_shift : {r' r : Reader} → Shifts r' r → (x : Option ℕ) → and_then (shifted past x) r' ≡ shifted past (and_then x r)
+  then_shift h None = refl
+  then_shift h (Some q) = h.shift q
 
   pub pair_shifts : {r' r : Reader} → Shifts r' r → Shifts (pair (p ++ s) r') (pair s r)
   unfolding pair
@@ -148,15 +146,15 @@ module _ (p s : List ℕ) where
   repeat_shifts h zero = record { shift = λ at. refl }
   repeat_shifts {r} h (suc n) = record { shift = λ at. rw (h.shift at) (then_shift (repeat_shifts h n) (r at)) }
 
-  value_of_shift : {r' r : Reader} → Shifts r' r → (x : Item) → value_of (p ++ s) r' (shifted_item past x) ≡ shifted past (value_of s r x)
-  value_of_shift h (Unsigned n next) = refl
-  value_of_shift h (Negative n next) = refl
-  value_of_shift h (Bytes start stop) = refl
-  value_of_shift h (Simple next) = refl
-  value_of_shift h (Array n at) = (repeat_shifts h n).shift at
-  value_of_shift h (Map n at) = (repeat_shifts (pair_shifts h) n).shift at
-  value_of_shift h (Set n at) = (repeat_shifts key_shifts n).shift at
-  value_of_shift h Refused = refl
+  value_of_shift : {r' r : Reader} → Shifts r' r → (x : Option Item) → value_of (p ++ s) r' (shifted_item past x) ≡ shifted past (value_of s r x)
+  value_of_shift h (Some (Unsigned n next)) = refl
+  value_of_shift h (Some (Negative n next)) = refl
+  value_of_shift h (Some (Bytes start stop)) = refl
+  value_of_shift h (Some (Simple next)) = refl
+  value_of_shift h (Some (Array n at)) = (repeat_shifts h n).shift at
+  value_of_shift h (Some (Map n at)) = (repeat_shifts (pair_shifts h) n).shift at
+  value_of_shift h (Some (Set n at)) = (repeat_shifts key_shifts n).shift at
+  value_of_shift h None = refl
 
   pub value_shifts : (levels : ℕ) → Shifts (value (p ++ s) levels) (value s levels)
   unfolding value
@@ -164,6 +162,6 @@ module _ (p s : List ℕ) where
   value_shifts (suc l) = record { shift = λ at. rw (item_shift at) (value_of_shift (value_shifts l) (item_at s at)) }
 
   -- a reader came to the end
-  pub whole_shift : (x : Next) → whole (p ++ s) (shifted past x) ≡ whole s x
-  whole_shift Bad = refl
-  whole_shift (At q) = rw length-append (eqb_shift past q (length s))
+  pub whole_shift : (x : Option ℕ) → whole (p ++ s) (shifted past x) ≡ whole s x
+  whole_shift None = refl
+  whole_shift (Some q) = rw length-append (eqb_shift past q (length s))

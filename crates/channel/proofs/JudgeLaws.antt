@@ -6,14 +6,13 @@ use mathlib.Core.Bool.{true, false, ◌&&◌, cond}
 use mathlib.Core.List.{List, []}
 use native.Mathlib.Omega.{arith}
 use lib.ListN.{length, take, drop, set, length-drop}
-use lib.Seq.{length-take-le, set_out}
+use lib.Seq.{length-take-le}
 use lib.Dec.{leb}
 use borrow.Author.Tests.{eq-eqb, ne_eqb, leb-true, le-leb}
 use Rattle.buffer.specs.Bytes.{write}
 use Rattle.buffer.proofs.WriteLaws.{own-part, write-none}
-use Rattle.requests.specs.declared.Phase.TheVariants.{Waiting}
+use Rattle.requests.specs.declared.Phase.TheVariants.{Free, Waiting}
 use Rattle.requests.specs.declared.Slot.{Slot}
-use Rattle.requests.specs.Phases.{free_slot}
 use Rattle.frame.specs.declared.Header.{Header}
 use Rattle.frame.specs.Limits.{max_command, slot_count, part_start}
 use Rattle.frame.specs.Header.{length_of, header_of}
@@ -27,11 +26,18 @@ use Rattle.rules.proofs.RuleLaws.{passed, in_range}
 use Rattle.rules.proofs.StageLaws.{no_other, rest_more, rest-whole, rest-other, all_head, all_rest, check_range}
 use Rattle.session.specs.Session.{Feed}
 use Rattle.channel.specs.declared.Channel.{Channel}
-use Rattle.requests.specs.Slots.{in_phase, collected, data_slot}
-use Rattle.channel.specs.Receiver.{Receiver, slot_at, place_of, lowest_free, target, command_length, command, placed, stream_open, view_of, refused, refused_work, command_slot, slots_after, streams_after, accepted, judge}
+use Rattle.requests.specs.Slots.{in_phase, first_slot, is_id, collected, data_slot}
+use Rattle.channel.specs.Receiver.{Receiver, with_slot, slot_at, place_of, lowest_free, target, command_length, command, placed, stream_open, view_of, refused, refused_work, command_slot, slots_after, streams_after, accepted, judge}
 use Rattle.channel.specs.Channel.{fed_with}
 use Rattle.channel.specs.Steps.{put_from, stepped, judged_into, met_of, HasFrame, Passed, refused_with, accepted_with}
 use Rattle.channel.proofs.ReceiverLaws.{room_of}
+
+-- the places of a frame's request and of its command's slot; as many as there are slots where it has none
+abbrev pub place_in : Channel → Header → ℕ
+place_in s h = first_slot (is_id h.request) s.slots
+
+abbrev pub target_in : Channel → Header → ℕ
+target_in s h = cond (is_new (framed h [])) (first_slot (in_phase Free) s.slots) (place_in s h)
 
 -- what a frame that rules 12 to 23 let pass meets, and its number, by the header in the work area
 module _ {s : Channel} {h : Header} {m : Met} {w : List ℕ} (p : Passed s h m w) where
@@ -71,7 +77,7 @@ module _ {s : Channel} {w : List ℕ} (g : HasFrame s w) (count : length s.slots
   payload = take h.length (drop 8 w)
 
   abbrev at : ℕ
-  at = part_start m.target + m.held
+  at = part_start (target_in s h) + m.held
 
   abbrev placed_in : List ℕ
   placed_in = write w at payload
@@ -118,7 +124,7 @@ module _ {s : Channel} {w : List ℕ} (g : HasFrame s w) (count : length s.slots
   size_same = rw payload-length
 
   accepts : (i : ℕ) (x : Slot) (work new : List ℕ) → first_broken rules f v ≡ 0 → slots_after s f ≡ set s.slots i x → cond (is_command f) (placed s f w) w ≡ work → record_with f v ≡ new
-      → goal ≡ fed_with (accepted_with s h i x (length new)) work (write out done new)
+      → goal ≡ fed_with (accepted_with (with_slot s i x) h (length new)) work (write out done new)
   unfolding accepted streams_after frame_of ends
   accepts i x work new z a b c = judged-zero z ∙ rw (a, b, c, g.live)
 
@@ -133,32 +139,32 @@ module _ {s : Channel} {w : List ℕ} (g : HasFrame s w) (count : length s.slots
       unfolding is_command is_type frame_of
       is-command = eq-eqb h.kind 1 k
 
-      pub has_room : (m.target < slot_count) × (size ≤ max_command)
+      pub has_room : (target_in s h < slot_count) × (size ≤ max_command)
       unfolding rules place_of lowest_free target frame_of is_new
       has_room =
           let e' : first_broken head_rules f v ≡ 0 = sym head-same ∙ e in
           let (a, b) = room_of s f w count (passed f v head_rules 20 0 refl e') (passed f v head_rules 21 0 refl e') (passed f v head_rules 23 0 refl e') is-command in
           (a, rw (← size_same) b)
 
-      pub read_back : take size (drop (part_start m.target) placed_in) ≡ command s f w
+      pub read_back : take size (drop (part_start (target_in s h)) placed_in) ≡ command s f w
       unfolding command place_of lowest_free slot_at target frame_of is_new header_of
       read_back =
           let (a, b) = has_room in
-          ap (λ (n : ℕ). take (m.held + n) (drop (part_start m.target) placed_in)) (sym payload-length)
-          ∙ own-part w (part_start m.target) m.held payload (omega (arith, payload-length))
+          ap (λ (n : ℕ). take (m.held + n) (drop (part_start (target_in s h)) placed_in)) (sym payload-length)
+          ∙ own-part w (part_start (target_in s h)) m.held payload (omega (arith, payload-length))
 
       accepts-command : (new : List ℕ) → first_broken rules f v ≡ 0 → record_with f v ≡ new
-          → goal ≡ fed_with (accepted_with s h m.target (collected (framed h []) size) (length new)) placed_in (write out done new)
+          → goal ≡ fed_with (accepted_with (with_slot s (target_in s h) (collected (framed h []) size)) h (length new)) placed_in (write out done new)
       unfolding slots_after command_slot placed place_of lowest_free slot_at target frame_of is_new is_more data_follows header_of
-      accepts-command new z = accepts m.target (collected (framed h []) size) placed_in new z slots_same work-same
+      accepts-command new z = accepts (target_in s h) (collected (framed h []) size) placed_in new z slots_same work-same
         where
-          slots_same : slots_after s f ≡ set s.slots m.target (collected (framed h []) size)
+          slots_same : slots_after s f ≡ set s.slots (target_in s h) (collected (framed h []) size)
           slots_same = rw (is-command, size_same)
 
           work-same : cond (is_command f) (placed s f w) w ≡ placed_in
           work-same = rw is-command
 
-      pub answers-more : is_more (framed h []) ≡ true → goal ≡ fed_with (accepted_with s h m.target (collected (framed h []) size) 0) placed_in out
+      pub answers-more : is_more (framed h []) ≡ true → goal ≡ fed_with (accepted_with (with_slot s (target_in s h) (collected (framed h []) size)) h 0) placed_in out
       unfolding is_more frame_of record_with
       answers-more q = accepts-command [] (rest ∙ rest_more f v is-command q) (rw (is-command, q, no_other f 2 refl is-command)) ∙ rw (write-none out done)
 
@@ -174,7 +180,7 @@ module _ {s : Channel} {w : List ℕ} (g : HasFrame s w) (count : length s.slots
             judged-suc n placed_in (all_check ∙ c) o (is-placed s f w n a b)
 
         pub answers-command : check_of (command s f w) ≡ 0 → let new = request_record 1 h.request (command_byte (data_follows (framed h [])) (command s f w)) (command s f w) in
-            goal ≡ fed_with (accepted_with s h m.target (collected (framed h []) size) (length new)) placed_in (write out done new)
+            goal ≡ fed_with (accepted_with (with_slot s (target_in s h) (collected (framed h []) size)) h (length new)) placed_in (write out done new)
         unfolding is_more frame_of record_with data_follows view_of
         answers-command c = accepts-command (request_record 1 h.request (command_byte (data_follows (framed h [])) (command s f w)) (command s f w)) (all_check ∙ c) (rw (is-command, q))
 
@@ -209,30 +215,30 @@ module _ {s : Channel} {w : List ℕ} (g : HasFrame s w) (count : length s.slots
       is_data k = eq-eqb h.kind 2 k
 
       takes_data_lem : (new : List ℕ) → number ≡ 0 → h.kind ≡ 2 → record_with f v ≡ new
-          → goal ≡ fed_with (accepted_with s h m.place (data_slot (slot_at s m.place) (framed h [])) (length new)) w (write out done new)
+          → goal ≡ fed_with (accepted_with (with_slot s (place_in s h) (data_slot (slot_at s (place_in s h)) (framed h []))) h (length new)) w (write out done new)
       unfolding slots_after data_slot place_of slot_at frame_of is_last header_of
-      takes_data_lem new z k = accepts m.place (data_slot (slot_at s m.place) (framed h [])) w new (all-last ∙ z) (rw (no_command, is_data k)) work-stays
+      takes_data_lem new z k = accepts (place_in s h) (data_slot (slot_at s (place_in s h)) (framed h [])) w new (all-last ∙ z) (rw (no_command, is_data k)) work-stays
 
-      pub answers_data : number ≡ 0 → h.kind ≡ 2 → in_phase Waiting (slot_at s m.place) ≡ true → let new = request_record 2 h.request (bit (is_last (framed h []))) payload in
-          goal ≡ fed_with (accepted_with s h m.place (data_slot (slot_at s m.place) (framed h [])) (length new)) w (write out done new)
+      pub answers_data : number ≡ 0 → h.kind ≡ 2 → in_phase Waiting (slot_at s (place_in s h)) ≡ true → let new = request_record 2 h.request (bit (is_last (framed h []))) payload in
+          goal ≡ fed_with (accepted_with (with_slot s (place_in s h) (data_slot (slot_at s (place_in s h)) (framed h []))) h (length new)) w (write out done new)
       unfolding record_with view_of place_of slot_at frame_of is_last header_of
       answers_data z k waits = takes_data_lem (request_record 2 h.request (bit (is_last (framed h []))) payload) z k (rw (no_command, is_data k, waits))
 
       -- of a request that does not wait, though rule 27 lets it pass
-      pub answers_drain : number ≡ 0 → h.kind ≡ 2 → in_phase Waiting (slot_at s m.place) ≡ false
-          → goal ≡ fed_with (accepted_with s h m.place (data_slot (slot_at s m.place) (framed h [])) 0) w out
+      pub answers_drain : number ≡ 0 → h.kind ≡ 2 → in_phase Waiting (slot_at s (place_in s h)) ≡ false
+          → goal ≡ fed_with (accepted_with (with_slot s (place_in s h) (data_slot (slot_at s (place_in s h)) (framed h []))) h 0) w out
       unfolding record_with view_of place_of slot_at frame_of header_of
       answers_drain z k drains = takes_data_lem [] z k (rw (no_command, is_data k, drains)) ∙ rw (write-none out done)
 
-      pub answers_settings : number ≡ 0 → (h.kind ≡ 2 → ⊥) → goal ≡ fed_with (accepted_with s h 8 free_slot 0) w out
-      unfolding slots_after record_with is_type frame_of
-      answers_settings z k = accepts 8 free_slot w [] (all-last ∙ z) slots_same work-stays new-same ∙ rw (write-none out done)
+      pub answers_settings : number ≡ 0 → (h.kind ≡ 2 → ⊥) → goal ≡ fed_with (accepted_with s h 0) w out
+      unfolding slots_after record_with is_type frame_of accepted streams_after ends
+      answers_settings z k = judged-zero (all-last ∙ z) ∙ rw (slots_same, work-stays, new-same, g.live) (rw (sym g.active) (rw (write-none out done)))
         where
           no_data : is_type 2 f ≡ false
           no_data = ne_eqb h.kind 2 k
 
-          slots_same : slots_after s f ≡ set s.slots 8 free_slot
-          slots_same = rw (no_command, no_data) (sym (set_out s.slots 8 free_slot (omega (arith, count))))
+          slots_same : slots_after s f ≡ s.slots
+          slots_same = rw (no_command, no_data)
 
           new-same : record_with f v ≡ []
           new-same = rw (no_command, no_data)

@@ -1,8 +1,9 @@
 -- Rules 2 and 3, and the receiver as a machine: feed and finish are those of `Session`.
-use Rattle.std.specs.Prelude.{ℕ, ◌+◌, Bool, cond, ◌&&◌, ◌||◌, List, length, leb, ltb, eqb}
+use Rattle.std.specs.Prelude.{ℕ, ◌+◌, Bool, cond, ◌&&◌, ◌||◌, List, length, leb, ltb, eqb, Result, Ok, Err}
 use Rattle.channel.specs.declared.Channel.{Channel}
 use Rattle.channel.specs.declared.Fed.{Fed}
-use Rattle.channel.specs.declared.Finished.{Finished}
+use Rattle.channel.specs.declared.Refusal.{Refusal}
+use Rattle.channel.specs.declared.Refusal.TheVariants.{NotInShape, Dead, NotFinishable}
 use Rattle.frame.specs.Limits.{max_payload, longest_record, frame_area, work_area}
 use Rattle.session.specs.Session.{Machine, Feed, Reply, feed}
 use Rattle.frame.specs.Header.{length_of}
@@ -47,6 +48,13 @@ finish_of s id = cond (plain_shape s) (finish_state s id) (record { next = s; nu
 abbrev pub fed_with : Fed → List ℕ → List ℕ → Feed Receiver
 fed_with a work out = record { number = a.number; taken = a.taken; written = a.written; next = record { state = a.channel; work = work }; output = out }
 
--- the numbers and the state in finish's answer
-abbrev pub finished : Reply Channel → Finished
-finished a = record { number = a.number; channel = a.next }
+-- the number of a refusal of finish
+abbrev pub refusal_of : Refusal → ℕ
+refusal_of NotInShape = 3
+refusal_of (Dead n) = n
+refusal_of NotFinishable = 4
+
+-- finish's answer, on a state: a refusal leaves it
+abbrev pub finished : Channel → Result Channel Refusal → Reply Channel
+finished s (Ok next) = record { next = next; number = 0 }
+finished s (Err r) = record { next = s; number = refusal_of r }

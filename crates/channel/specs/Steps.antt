@@ -6,7 +6,6 @@ use Rattle.frame.specs.declared.Header.{Header}
 use Rattle.frame.specs.Limits.{max_payload, longest_record, work_area}
 use Rattle.frame.specs.Header.{length_of, header_of}
 use Rattle.frame.specs.Frame.{framed, frame_of, ends}
-use Rattle.requests.specs.declared.Slot.{Slot}
 use Rattle.requests.specs.Slots.{used_count}
 use Rattle.rules.specs.declared.Met.{Met}
 use Rattle.rules.specs.Rules.{first_broken}
@@ -15,7 +14,7 @@ use Rattle.session.specs.Session.{Step, Reading, Feed}
 use Rattle.channel.specs.declared.Channel.{Channel}
 use Rattle.channel.specs.declared.Fed.{Fed}
 use Rattle.channel.specs.declared.feed.Piece.{Piece}
-use Rattle.channel.specs.Receiver.{Receiver, with_dead, with_pending, with_streams, with_slot, stream_open, judge}
+use Rattle.channel.specs.Receiver.{Receiver, with_dead, with_pending, with_streams, stream_open, judge}
 
 abbrev pub receiver : Channel → List ℕ → Receiver
 receiver s w = record { state = s; work = w }
@@ -44,9 +43,9 @@ answer_with s number taken written = record { number = number; taken = taken; wr
 abbrev pub refused_with : Channel → ℕ → Fed
 refused_with s n = answer_with (with_dead (with_pending s 0) n) n 1 0
 
--- a byte whose frame is accepted, with the slot that it leaves at a place and the length of its record
-abbrev pub accepted_with : Channel → Header → ℕ → Slot → ℕ → Fed
-accepted_with s h i x n = answer_with (with_streams (with_slot (with_pending s 0) i x) (set s.streams (h.stream / 2) (not (ends (framed h []))))) 0 1 n
+-- a byte whose frame is accepted, with the slots as the frame leaves them and the length of its record
+abbrev pub accepted_with : Channel → Header → ℕ → Fed
+accepted_with s h n = answer_with (with_streams (with_pending s 0) (set s.streams (h.stream / 2) (not (ends (framed h []))))) 0 1 n
 
 -- ---- a whole frame in the work area
 

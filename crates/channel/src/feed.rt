@@ -11,6 +11,7 @@ use crate::{Channel, Fed};
 // What a piece of the input comes to: how it ends, how many of its bytes are taken, and how many bytes are pending after it. It ends with
 // 0 where the next piece goes on; with 5 before a byte that needs more output; with 11 where the frame is refused for its length; with 1
 // where a whole frame is in the work area, and is to be judged.
+// Stays a number: 0, 5 and 11 are feed's answer as they are (`piece_of` in specs/Steps.antt).
 #[derive(Clone, Copy)]
 struct Piece {
     number: u8,
@@ -27,11 +28,7 @@ fn quiet(pending: usize, work: &[u8], left: usize) -> usize
     if 8 <= pending {
         most += frame::payload_length(work);
     }
-    most -= pending;
-    if left < most {
-        return left;
-    }
-    most
+    left.min(most - pending)
 }
 
 // Takes the eighth byte of a frame, or its last.
@@ -87,9 +84,8 @@ fn take_piece(pending: usize, work: &mut [u8], rest: &[u8], room: usize) -> Piec
     }
     let last = take_byte(at, work, rest[q], room);
     Piece {
-        number: last.number,
         taken: q + last.taken,
-        pending: last.pending,
+        ..last
     }
 }
 
@@ -113,6 +109,7 @@ impl Channel {
         let mut next = self;
         let mut taken = 0;
         let mut written = 0;
+        // Stays a loop: feed answers how many bytes it took, and a turn takes as many as its piece has.
         while taken < input.len() {
             let piece = take_piece(next.pending, work, &input[taken..], out.len() - written);
             taken += piece.taken;
@@ -121,8 +118,7 @@ impl Channel {
             if number == 1 {
                 let judged = next.judge(work, out, written);
                 written += judged.written;
-                let channel = judged.channel;
-                next = channel;
+                next = judged.channel;
                 number = judged.number;
             }
             if number != 0 {

@@ -8,15 +8,18 @@ ghost use Rattle.buffer.specs.Bytes.{write};
 ghost use Rattle.frame.specs.Limits.{max_command, slot_count, work_area, part_start};
 ghost use Rattle.rules.specs.Rules.{check_of, command_byte};
 ghost use Rattle.channel.specs.Receiver.{fresh_state, with_slot};
-ghost use Rattle.channel.specs.Channel.{dead_fits, plain_shape, finish_of, finished, fed_with};
+ghost use Rattle.rules.specs.Stages.{number_of};
+ghost use Rattle.channel.specs.Channel.{dead_fits, plain_shape, refusal_of, finish_of, finished, fed_with};
 ghost use Rattle.channel.specs.Steps.{met_of, CountRight, answer_with, refused_with, accepted_with, judged_into, HasFrame, Passed};
 
 use frame::Header;
-use requests::{Phase, Slot, Want};
-use rules::Met;
+use requests::{Phase, Slot};
+use rules::{Met, Rule};
 
 // The dead number, 0 while live; how many bytes of the frame under way are in the work area; the slots; the streams, true for open:
 // stream 2k + 1 at index k; and how many requests are active.
+// Stays numbers and arrays: rule 3 is asked of any dead number, count and slots (`plain_shape` in specs/Channel.antt), and a state with others is
+// refused with 3.
 #[derive(Clone, Copy)]
 pub struct Channel {
     pub dead: u8,
@@ -27,6 +30,7 @@ pub struct Channel {
 }
 
 // What feed answers: its number, how many bytes of the input it took, how many bytes of the output it wrote, and the state after it.
+// Stays a number: it is one of document 01's, handed to every caller as it is, and the dead one is a byte of the state.
 #[derive(Clone, Copy)]
 pub struct Fed {
     pub number: u8,
@@ -35,55 +39,59 @@ pub struct Fed {
     pub channel: Channel,
 }
 
-// What finish answers: its number, and the state after it.
-#[derive(Clone, Copy)]
-pub struct Finished {
-    pub number: u8,
-    pub channel: Channel,
+// Why a finish is refused: the state is not in shape, the channel is dead with its number, or the request neither waits nor runs.
+#[derive(Clone, Copy, PartialEq, Eq)]
+pub enum Refusal {
+    NotInShape,
+    Dead(u8),
+    NotFinishable,
+}
+
+// The number of a refusal: 3, the dead number, or 4.
+impl From<Refusal> for u8 {
+    ghost from_gives = { λ r n. n ≡ refusal_of r };
+
+    fn from(refusal: Refusal) -> u8 {
+        match refusal {
+            Refusal::NotInShape => 3,
+            Refusal::Dead(number) => number,
+            Refusal::NotFinishable => 4,
+        }
+    }
 }
 
 // Whether a dead number is one: 0, or 11 to 29.
+// Stays a number: rule 3 speaks of every byte that may stand there (`dead_fits`).
+#[tactic(auto, unfolding(crate::specs::Channel::dead_fits))]
 fn dead_fits(n: u8) -> bool
     ensures { result ≡ dead_fits n }
 {
-    if n == 0 {
-        return true;
-    }
-    if n < 11 {
-        return false;
-    }
-    n <= 29
+    n == 0 || matches!(n, 11..=29)
 }
 
 impl Channel {
     // Live, nothing pending, all slots free, all streams closed, no request active.
+    #[tactic(auto, unfolding(crate::specs::Receiver::fresh_state))]
     pub fn fresh() -> Channel
         ensures { result ≡ fresh_state }
     {
-        let free = Slot::free();
-        let slots = [free; 8];
-        let streams = [false; 128];
         Channel {
             dead: 0,
             pending: 0,
-            slots,
-            streams,
+            slots: [Slot::free(); 8],
+            streams: [false; 128],
             active: 0,
         }
     }
 
     // Whether the plain numbers of rule 3 are in order: finish's shape check.
+    #[tactic(auto, unfolding(crate::specs::Channel::plain_shape))]
     pub fn is_plain(self) -> bool
         ensures { result ≡ plain_shape self }
     {
-        if frame::FRAME_AREA <= self.pending {
-            return false;
-        }
-        let slots = self.slots;
-        if !requests::slots_fit(slots, self.active) {
-            return false;
-        }
-        dead_fits(self.dead)
+        self.pending < frame::FRAME_AREA
+            && requests::slots_fit(&self.slots, self.active)
+            && dead_fits(self.dead)
     }
 
     // The state with another slot at an index, and the count that follows; as it is where there is none.
@@ -91,45 +99,35 @@ impl Channel {
         requires { CountRight self }
         ensures { result ≡ with_slot self i x }
     {
-        let slots = self.slots;
-        let changed = requests::with_slot(slots, i, x);
-        let before = requests::slot_at(slots, i);
-        let after = requests::slot_at(changed, i);
-        let mut next = self;
-        next.slots = changed;
-        next.active = self.active + after.used_bit() - before.used_bit();
-        next
-    }
-
-    fn finished(self, number: u8) -> Finished
-        ensures { result ≡ finished (record { next = self; number = number }) }
-    {
-        Finished {
-            number,
-            channel: self,
+        let slots = requests::with_slot(self.slots, i, x);
+        let before = requests::slot_at(&self.slots, i);
+        let after = requests::slot_at(&slots, i);
+        Channel {
+            slots,
+            active: self.active + after.used_bit() - before.used_bit(),
+            ..self
         }
     }
 
-    // The owner's finish of a request: 3, the dead number, 4, or 0. Then the slot of a request that ran is free, and one that waited for
-    // data drains.
-    pub fn finish(self, id: u16) -> Finished
-        ensures { result ≡ finished (finish_of self id) }
+    // The owner's finish of a request: the state after it, in which the slot of a request that ran is free, and one that waited for data
+    // drains. Or 3, the dead number or 4, and the state that was handed in stays the channel's.
+    pub fn finish(self, id: u16) -> Result<Channel, Refusal>
+        ensures { finished self result ≡ finish_of self id }
     {
         if !self.is_plain() {
-            return self.finished(3);
+            return Err(Refusal::NotInShape);
         }
         if self.dead != 0 {
-            return self.finished(self.dead);
+            return Err(Refusal::Dead(self.dead));
         }
-        let slots = self.slots;
-        let i = requests::find(slots, Want::Used(id));
-        let x = requests::slot_at(slots, i);
-        let phase = x.phase;
-        if requests::can_finish(phase) {
-            let next = self.with_slot(i, requests::finish_slot(x));
-            return next.finished(0);
+        let Some(i) = requests::place_of(&self.slots, id) else {
+            return Err(Refusal::NotFinishable);
+        };
+        let x = requests::slot_at(&self.slots, i);
+        if !requests::can_finish(x.phase) {
+            return Err(Refusal::NotFinishable);
         }
-        self.finished(4)
+        Ok(self.with_slot(i, requests::finish_slot(x)))
     }
 
     // The answer with this state.
@@ -148,6 +146,7 @@ impl Channel {
 // ---- a whole frame in the work area: the rules, and what it does if it is accepted or refused
 
 // Puts the frame's payload of n bytes into a slot's part of the work area, behind the bytes that the part holds.
+// Stays by way of an array: two parts of one area cannot be lent at once, and `copy_within` calls C's memmove.
 fn place(work: &mut [u8], slot: usize, held: usize, n: usize)
     requires { (work_area ≤ length work.old) × (slot < slot_count) × (held + n ≤ max_command) }
     ensures { work.new ≡ write work.old (part_start slot + held) (take n (drop 8 work.old)) }
@@ -170,32 +169,33 @@ fn command_byte(with_data: bool, command: &[u8]) -> u8
 
 impl Channel {
     // What the frame of a header meets.
+    #[tactic(auto, unfolding(crate::specs::Receiver::stream_open))]
     fn met(self, h: Header) -> Met
         ensures { result ≡ met_of self h }
     {
-        let slots = self.slots;
         let stream = (h.stream / 2) as usize;
-        let is_open = self.streams[stream];
-        rules::look_up(slots, is_open, h)
+        rules::look_up(&self.slots, self.streams[stream], h)
     }
 
     // The answer to a byte that refuses its frame.
-    fn refused(self, n: u8) -> Fed
-        ensures { result ≡ refused_with self n }
+    fn refused(self, rule: Rule) -> Fed
+        ensures { result ≡ refused_with self (number_of rule) }
     {
-        let mut next = self;
-        next.dead = n;
-        next.pending = 0;
+        let n = u8::from(rule);
+        let next = Channel {
+            dead: n,
+            pending: 0,
+            ..self
+        };
         next.answer(n, 1, 0)
     }
 
-    // The answer to a byte whose frame is accepted, with the slot that it leaves at an index and the length of its record.
-    fn accepted(self, h: Header, i: usize, x: Slot, written: usize) -> Fed
-        requires { CountRight self }
-        ensures { result ≡ accepted_with self h i x written }
+    // The answer to a byte whose frame is accepted, with the slots as the frame leaves them and the length of its record.
+    fn accepted(self, h: Header, written: usize) -> Fed
+        ensures { result ≡ accepted_with self h written }
     {
         let stream = (h.stream / 2) as usize;
-        let mut next = self.with_slot(i, x);
+        let mut next = self;
         next.pending = 0;
         next.streams[stream] = !h.ends();
         next.answer(0, 1, written)
@@ -206,22 +206,21 @@ impl Channel {
         requires { (h.kind ≡ 1) × Passed self h m work.old }
         ensures { fed_with result work.new out.new ≡ judged_into out.old done self work.old }
     {
-        let target = m.target;
+        let target = m.target.unwrap();
         let size = m.held + h.length;
         place(work, target, m.held, h.length);
-        let x = requests::command_slot(h, size);
+        let next = self.with_slot(target, requests::command_slot(h, size));
         if h.is_more() {
-            return self.accepted(h, target, x, 0);
+            return next.accepted(h, 0);
         }
         let start = frame::FRAME_AREA + frame::MAX_COMMAND * target;
         let stop = start + size;
-        let n = rules::command_number(&work[start..stop]);
-        if n != 0 {
-            return self.refused(n);
+        if let Err(rule) = rules::command_number(&work[start..stop]) {
+            return self.refused(rule);
         }
         let third = command_byte(h.data_follows(), &work[start..stop]);
         let written = frame::put_record(out, done, 1, h.request, third, &work[start..stop]);
-        self.accepted(h, target, x, written)
+        next.accepted(h, written)
     }
 
     // Data or settings that rules 12 to 23 let pass. Data of a request that drains gives no record.
@@ -230,23 +229,21 @@ impl Channel {
         ensures { fed_with result work.now out.new ≡ judged_into out.old done self work.now }
     {
         let end = 8 + h.length;
-        let n = rules::last_number(h, m, &work[8..end]);
-        if n != 0 {
-            return self.refused(n);
+        if let Err(rule) = rules::last_number(h, m, &work[8..end]) {
+            return self.refused(rule);
         }
-        if h.kind == 2 {
-            let slots = self.slots;
-            let x = requests::slot_at(slots, m.place);
-            let y = requests::data_slot(x, h);
-            let phase = x.phase;
-            if !requests::is_phase(Phase::Waiting, phase) {
-                return self.accepted(h, m.place, y, 0);
-            }
-            let third = frame::bit(h.is_last());
-            let written = frame::put_record(out, done, 2, h.request, third, &work[8..end]);
-            return self.accepted(h, m.place, y, written);
+        if h.kind != 2 {
+            return self.accepted(h, 0);
         }
-        self.accepted(h, 8, Slot::free(), 0)
+        let place = m.place.unwrap();
+        let x = requests::slot_at(&self.slots, place);
+        let next = self.with_slot(place, requests::data_slot(x, h));
+        if x.phase != Phase::Waiting {
+            return next.accepted(h, 0);
+        }
+        let third = frame::bit(h.is_last());
+        let written = frame::put_record(out, done, 2, h.request, third, &work[8..end]);
+        next.accepted(h, written)
     }
 
     // The frame rules 12 to 29 on the whole frame in the work area.
@@ -256,9 +253,8 @@ impl Channel {
     {
         let h = frame::read_header(&work[..]);
         let m = self.met(h);
-        let n = rules::head_number(h, m);
-        if n != 0 {
-            return self.refused(n);
+        if let Err(rule) = rules::head_number(h, m) {
+            return self.refused(rule);
         }
         if h.kind == 1 {
             return self.command(h, m, work, out, done);

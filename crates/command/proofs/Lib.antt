@@ -1,5 +1,4 @@
 -- What the proofs of several functions use.
-pub mod Answers
 mod Cases
 pub mod Empty
 pub mod Missing

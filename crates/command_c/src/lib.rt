@@ -1,4 +1,5 @@
 // The calls for C: a byte slice is a pointer and then a length, and the number is the result.
+// Stays beside hgrpc's calls that answer alike: C has these by names of their own, in an archive of their own.
 #![tactic(auto)]
 
 ghost use Rattle.std.specs.Prelude.{◌≡◌};

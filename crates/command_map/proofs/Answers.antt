@@ -1,22 +1,18 @@
--- What a key that stands twice in the outer map, or none, does to an answer.
+-- What a key that stands twice in the outer map, or none, does to an answer; and an answer that is known to be a refusal.
 -- Assumes nothing.
+use Rattle.std.specs.Prelude.{Ok, Err}
 use mathlib.Core.Path.{◌≡◌, refl}
-use mathlib.Core.Bool.{Bool, false}
-use Prim.Native.Nat.{ℕ}
-use Rattle.command_map.specs.declared.Checked.{Checked}
-use Rattle.command_map.specs.declared.Checked.TheVariants.{Command, NotItem, NotCommand, DoubleKey}
+use mathlib.Core.Bool.{false}
+use Rattle.std.specs.Result.{IsErrAnd}
+use Rattle.command_map.specs.declared.Refusal.{Refusal}
+use Rattle.command_map.specs.CommandMap.{Checked}
 use Rattle.command_map.specs.Walk.{also_double}
-
--- a refusal stays, whatever else is double
-pub still-refused : (t : Bool) (c : Checked) → ((start stop count first : ℕ) → c ≡ Command start stop count first → ⊥) → also_double t c ≡ c
-still-refused t (Command start stop count first) h = absurd (h start stop count first refl)
-still-refused t NotItem h = refl
-still-refused t NotCommand h = refl
-still-refused t DoubleKey h = refl
 
 -- where no key stands twice the answer stays
 pub still-single : (c : Checked) → also_double false c ≡ c
-still-single (Command start stop count first) = refl
-still-single NotItem = refl
-still-single NotCommand = refl
-still-single DoubleKey = refl
+still-single (Ok c) = refl
+still-single (Err x) = refl
+
+pub err-is : (r : Checked) (x : Refusal) → IsErrAnd r (λ e. e ≡ x) → r ≡ Err x
+err-is (Ok c) x h = absurd h
+err-is (Err e) x h = rw h

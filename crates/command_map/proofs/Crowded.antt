@@ -1,30 +1,29 @@
 -- Of four keys that are each `name`, `args` or `redirect` two are equal: an outer map with more than three entries has a key twice.
 -- Assumes nothing.
+use Rattle.std.specs.Prelude.{Option, None, Some, Ok}
 use mathlib.Core.Path.{◌≡◌, refl, sym, ap, ◌∙◌}
 use mathlib.Core.Bool.{Bool, true, false, cond, false≢true}
 use mathlib.Core.Logic.{◌⊎◌, inl, inr}
-use mathlib.Core.List.{List, [], ◌∷◌, foldl}
+use mathlib.Core.List.{List, [], ◌∷◌}
 use Prim.Native.Nat.{ℕ, zero, suc, ◌+◌, ◌<◌}
 use native.Mathlib.Omega.{arith}
 use lib.Dec.{eqb}
 use lib.ListN.{length}
 use borrow.Author.Tests.{eqb-true, eqb-false}
 use Rattle.cbor.specs.declared.Item.{Item}
-use Rattle.cbor.specs.declared.Next.{Next}
-use Rattle.cbor.specs.declared.Next.TheVariants.{At}
 use Rattle.cbor.specs.Cbor.{item_at, and_then, repeat, pair, value}
 use Rattle.keys.specs.Keys.{part, equal, twice}
 use Rattle.keys.proofs.Equal.{equal-true, equal-refl}
 use Rattle.entries.specs.declared.Entry.{Entry}
-use Rattle.entries.specs.declared.Entry.TheVariants.{Keyed, Other, Broken}
-use Rattle.entries.specs.Entries.{all, next_of, onward, entry_at, entries, contents}
+use Rattle.entries.specs.declared.Entry.TheVariants.{Keyed, Other}
+use Rattle.entries.specs.Entries.{all, onward, entry_at, entries, contents}
 use Rattle.entries.proofs.Bools.{and_left, and_right}
-use Rattle.entries.proofs.Walk.{entry-pair}
+use Rattle.entries.proofs.Walk.{end_of, entry-pair}
 use Rattle.double_keys.proofs.KeyLists.{twice-pair}
-use Rattle.command_map.specs.declared.Checked.TheVariants.{Command}
+use Rattle.command_map.specs.declared.Command.{Command}
 use Rattle.command_map.specs.declared.Judged.{Judged}
 use Rattle.command_map.specs.CommandMap.{name-key, args_key, redirect_key, is_name, is_args, is_map, allowed}
-use Rattle.command_map.specs.Walk.{none_judged, judge, command_of}
+use Rattle.command_map.specs.Walk.{judged, command_of}
 use Rattle.command_map.proofs.Judgement.{all-allowed}
 
 abbrev key_numbered : ℕ → List ℕ
@@ -82,7 +81,7 @@ crowded (k ∷ l ∷ m ∷ n ∷ ks) (more x (more y (more z (more w r)))) h = b
 
 module _ (s : List ℕ) where
   -- an entry that is allowed has one of the three keys
-  by_key : (key : List ℕ) (p q r : Bool) (x : Item) → equal name-key key ≡ p → equal args_key key ≡ q → equal redirect_key key ≡ r
+  by_key : (key : List ℕ) (p q r : Bool) (x : Option Item) → equal name-key key ≡ p → equal args_key key ≡ q → equal redirect_key key ≡ r
       → cond p (is_name x) (cond q (is_args s x) (cond r (is_map x) false)) ≡ true → Named key
   by_key key true q r x a b c ok = record { number = 0; small = omega arith; is = sym (equal-true name-key key a) }
   by_key key false true r x a b c ok = record { number = 1; small = omega arith; is = sym (equal-true args_key key b) }
@@ -96,29 +95,25 @@ module _ (s : List ℕ) where
       let r = contents-named es (and_right (allowed s (Keyed start stop next)) _ ok) in
       (more (by_key (part s start stop) _ _ _ (item_at s stop) refl refl refl (and_left (allowed s (Keyed start stop next)) _ ok)) r.0, ap suc r.1)
   contents-named (Other next ∷ es) ok = absurd (false≢true ok)
-  contents-named (Broken ∷ es) ok = absurd (false≢true ok)
 
   -- n entries that are all there are n
-  onward-long : (n : ℕ) (e : Entry) (rest : ℕ → List Entry) (p : ℕ) (r : ℕ → Next) → ((q : ℕ) → r q ≡ At p → length (rest q) ≡ n) → and_then (next_of e) r ≡ At p → length (onward e rest) ≡ suc n
-  onward-long n (Keyed start stop next) rest p r f h = ap suc (f next h)
-  onward-long n (Other next) rest p r f h = ap suc (f next h)
-  onward-long n Broken rest p r f h = absurd (let z : ◌≡◌ {A = ℕ} 0 1 = cc in omega arith)
+  onward-long : (n : ℕ) (e : Option Entry) (rest : ℕ → List Entry) (p : ℕ) (r : ℕ → Option ℕ) → ((q : ℕ) → r q ≡ Some p → length (rest q) ≡ n) → and_then (end_of e) r ≡ Some p → length (onward e rest) ≡ suc n
+  onward-long n (Some (Keyed start stop next)) rest p r f h = ap suc (f next h)
+  onward-long n (Some (Other next)) rest p r f h = ap suc (f next h)
+  onward-long n None rest p r f h = absurd (let z : ◌≡◌ {A = ℕ} 0 1 = cc in omega arith)
 
-  entries-long : (l n at p : ℕ) → repeat n (pair s (value s l)) at ≡ At p → length (entries s l n at) ≡ n
+  entries-long : (l n at p : ℕ) → repeat n (pair s (value s l)) at ≡ Some p → length (entries s l n at) ≡ n
   unfolding entries repeat
   entries-long l zero at p h = refl
   entries-long l (suc n) at p h = onward-long n (entry_at s l at) (entries s l n) p (repeat n (pair s (value s l))) (λ q. entries-long l n q p) (rw (← entry-pair s l at) h)
 
   -- a command whose judgement is of all its entries: where they are more than three a key stands twice
-  pub too_many : (n at p : ℕ) → repeat n (pair s (value s 7)) at ≡ At p → (foldl (judge s) none_judged (entries s 7 n at)).allowed ≡ true → 3 < n → twice (contents s (entries s 7 n at)) ≡ true
-  too_many n at p h a l =
-      let c = contents-named (entries s 7 n at) (sym (all-allowed s none_judged (entries s 7 n at)) ∙ a) in
+  pub too_many : (n at p : ℕ) (j : Judged) → repeat n (pair s (value s 7)) at ≡ Some p → judged s (entries s 7 n at) ≡ Some j → 3 < n → twice (contents s (entries s 7 n at)) ≡ true
+  too_many n at p j h a l =
+      let c = contents-named (entries s 7 n at) (all-allowed s (entries s 7 n at) j a) in
       crowded (contents s (entries s 7 n at)) c.0 (omega (arith, c.1, entries-long 7 n at p h))
 
--- what makes a command is allowed
-pub is-allowed : (j : Judged) (start stop count first : ℕ) → command_of j ≡ Command start stop count first → j.allowed ≡ true
-is-allowed j start stop count first h = by j.allowed refl
-  where
-    by : (b : Bool) → j.allowed ≡ b → j.allowed ≡ true
-    by true e = e
-    by false e = absurd (let z : ◌≡◌ {A = ℕ} 0 1 = cc in omega arith)
+-- what makes a command is a judgement
+pub is-judged : (o : Option Judged) (c : Command) → command_of o ≡ Ok c → (j : Judged) × (o ≡ Some j)
+is-judged None c h = absurd (let z : ◌≡◌ {A = ℕ} 0 1 = cc in omega arith)
+is-judged (Some j) c h = (j, refl)

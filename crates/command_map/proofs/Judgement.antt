@@ -1,39 +1,56 @@
 -- The walk's judgement of all entries, part by part: it says of the list of entries what the definition of the command map says.
 -- Assumes nothing.
-use mathlib.Core.Path.{◌≡◌, refl, sym, ◌∙◌}
-use mathlib.Core.Bool.{Bool, true, false, cond, ◌&&◌, ◌||◌, false≢true, and-true, and-false, and_assoc, or-true, or-false, or_assoc}
+use Rattle.std.specs.Prelude.{Option, None, Some, Ok, Err}
+use mathlib.Core.Path.{◌≡◌, refl, sym, ap, ◌∙◌}
+use mathlib.Core.Bool.{Bool, true, false, cond, ◌&&◌, ◌||◌, false≢true, or-true, or-false, or_assoc}
 use mathlib.Core.List.{List, [], ◌∷◌, foldl}
 use Prim.Native.Nat.{ℕ}
+use native.Mathlib.Omega.{arith}
 use lib.ListN.{length}
 use borrow.Author.Tests.{eq-eqb}
+use Rattle.std.specs.Option.{MatchOption, option_or}
 use Rattle.cbor.specs.declared.Item.{Item}
-use Rattle.cbor.specs.declared.Item.TheVariants.{Unsigned, Negative, Bytes, Simple, Array, Map, Set, Refused}
-use Rattle.cbor.specs.declared.Next.TheVariants.{At}
+use Rattle.cbor.specs.declared.Item.TheVariants.{Unsigned, Negative, Bytes, Simple, Array, Map, Set}
 use Rattle.cbor.proofs.Folds.{by_bytes, by_map, after-bytes}
 use Rattle.keys.specs.Keys.{part, equal, twice}
 use Rattle.keys.proofs.Equal.{equal-true}
 use Rattle.entries.proofs.Bools.{and_left, and_right}
 use Rattle.entries.specs.declared.Entry.{Entry}
-use Rattle.entries.specs.declared.Entry.TheVariants.{Keyed, Other, Broken}
-use Rattle.double_keys.specs.declared.Keys.TheVariants.{Single, Double, Others}
+use Rattle.entries.specs.declared.Entry.TheVariants.{Keyed, Other}
+use Rattle.double_keys.specs.declared.Keys.TheVariants.{Single, Double}
 use Rattle.entries.specs.Entries.{all, any, is_keyed, entries, contents, has_key, find}
 use Rattle.double_keys.specs.DoubleKeys.{keys_of}
-use Rattle.command_map.specs.declared.Checked.{Checked}
-use Rattle.command_map.specs.declared.Checked.TheVariants.{NotCommand, DoubleKey}
+use Rattle.command_map.specs.declared.Command.{Command}
 use Rattle.command_map.specs.declared.Judged.{Judged}
 use Rattle.command_map.specs.declared.Fields.{Fields}
-use Rattle.command_map.specs.CommandMap.{name-key, args_key, redirect_key, is_name, is_map, command_with, is_args, has_double, value_item, allowed, value_under, args_double, double, map_of, map_checked}
-use Rattle.command_map.specs.Walk.{first_bytes, first_map, none_judged, unallowed, with_name, with_keys, with_redirect, with_args, judge, Walked, command_of, also_double, JudgementHolds}
-use Rattle.command_map.proofs.Answers.{still-single}
+use Rattle.command_map.specs.declared.Refusal.TheVariants.{NotCommand, DoubleKey}
+use Rattle.command_map.specs.CommandMap.{Checked, name-key, args_key, redirect_key, is_name, is_map, command_with, is_args, has_double, value_item, allowed, value_found, value_under, args_double, double, map_of, map_checked}
+use Rattle.command_map.specs.Walk.{none_judged, with_name, with_keys, with_redirect, with_args, judge, judge_next, judged, WalkedTo, Walked, command_of, also_double, JudgementHolds}
 
--- a value of each kind
-name-bytes : (x : Item) → is_name x ≡ true → (start : ℕ) × (stop : ℕ) × (x ≡ Bytes start stop)
-name-bytes x = by_bytes (λ (r : Bool). r ≡ true → (start : ℕ) × (stop : ℕ) × (x ≡ Bytes start stop)) x _ false
-    (λ start stop e h. (start, stop, e)) (λ h. absurd (false≢true h))
+-- an item is there
+There : Option Item → Type 0
+There x = (y : Item) × (x ≡ Some y)
+
+name-there : (x : Option Item) → is_name x ≡ true → There x
+unfolding There
+name-there x = by_bytes (λ (r : Bool). r ≡ true → There x) x _ false (λ start stop e h. (Bytes start stop, e)) (λ h. absurd (false≢true h))
+
+-- the first of two that is there
+or-none : (o : Option Item) → option_or o None ≡ o
+or-none None = refl
+or-none (Some x) = refl
+
+or-first : (x o : Option Item) → There x → option_or x o ≡ x
+unfolding There
+or-first x o t = rw t.1
+
+first_of : (a b c : Option Item) → option_or (option_or a b) c ≡ option_or a (option_or b c)
+first_of None b c = refl
+first_of (Some x) b c = refl
 
 module _ (s : List ℕ) where
-  args_map : (x : Item) → is_args s x ≡ true → (n : ℕ) × (at : ℕ) × (x ≡ Map n at) × (all is_keyed (entries s 6 n at) ≡ true)
-  args_map x = by_map (λ (r : Bool). r ≡ true → (n : ℕ) × (at : ℕ) × (x ≡ Map n at) × (all is_keyed (entries s 6 n at) ≡ true)) x _ false
+  args_map : (x : Option Item) → is_args s x ≡ true → (n : ℕ) × (at : ℕ) × (x ≡ Some (Map n at)) × (all is_keyed (entries s 6 n at) ≡ true)
+  args_map x = by_map (λ (r : Bool). r ≡ true → (n : ℕ) × (at : ℕ) × (x ≡ Some (Map n at)) × (all is_keyed (entries s 6 n at) ≡ true)) x _ false
       (λ n at e h. (n, at, e, h)) (λ h. absurd (false≢true h))
 
   -- no key is both `name` and `args`
@@ -41,187 +58,165 @@ module _ (s : List ℕ) where
   unfolding equal
   one_key (Keyed start stop next) h = rw (sym (equal-true name-key (part s start stop) h)) refl
   one_key (Other next) h = refl
-  one_key Broken h = refl
 
-  -- whether the entries are allowed
-  name-allowed : (j : Judged) (x : Item) (b : Bool) → (cond b (record { allowed = j.allowed; name = first_bytes j.name x; args = j.args; double = j.double }) (unallowed j)).allowed ≡ (j.allowed && b)
-  name-allowed j x true = sym (and-true j.allowed)
-  name-allowed j x false = sym (and-false j.allowed)
+  -- What an entry that is allowed makes of a judgement: its value is x, and its key is `name` (a) or `args` (b).
+  record Taken (j k : Judged) (a b : Bool) (x : Option Item) : Type 0 where
+    name : k.name ≡ option_or j.name (cond a x None)
+    args : k.args ≡ option_or j.args (cond b x None)
+    double : k.double ≡ (j.double || (b && has_double s x))
+    name_there : a ≡ true → There x
+    args_there : b ≡ true → There x
 
-  redirect_allowed : (j : Judged) (b : Bool) → (cond b j (unallowed j)).allowed ≡ (j.allowed && b)
-  redirect_allowed j true = sym (and-true j.allowed)
-  redirect_allowed j false = sym (and-false j.allowed)
+  keys_step : (j : Judged) (x : Option Item) (t : Bool) → with_keys j x (cond t Double Single) ≡ Some (record j { args = option_or j.args x; double = j.double || t })
+  keys_step j x true = rw (or-true j.double)
+  keys_step j x false = rw (or-false j.double)
 
-  keys_allowed : (j : Judged) (x : Item) (a t : Bool) → (with_keys j x (cond a (cond t Double Single) Others)).allowed ≡ (j.allowed && a)
-  keys_allowed j x true true = sym (and-true j.allowed)
-  keys_allowed j x true false = sym (and-true j.allowed)
-  keys_allowed j x false t = sym (and-false j.allowed)
-
-  args_allowed : (j : Judged) (x : Item) → (with_args s j x).allowed ≡ (j.allowed && is_args s x)
+  args_step : (j : Judged) (x : Option Item) (n at : ℕ) → x ≡ Some (Map n at) → all is_keyed (entries s 6 n at) ≡ true
+      → with_args s j x ≡ Some (record j { args = option_or j.args x; double = j.double || has_double s x })
   unfolding keys_of
-  args_allowed j (Unsigned n next) = sym (and-false j.allowed)
-  args_allowed j (Negative n next) = sym (and-false j.allowed)
-  args_allowed j (Bytes start next) = sym (and-false j.allowed)
-  args_allowed j (Simple next) = sym (and-false j.allowed)
-  args_allowed j (Array n at) = sym (and-false j.allowed)
-  args_allowed j (Map n at) = keys_allowed j (Map n at) (all is_keyed (entries s 6 n at)) (twice (contents s (entries s 6 n at)))
-  args_allowed j (Set n at) = sym (and-false j.allowed)
-  args_allowed j Refused = sym (and-false j.allowed)
+  args_step j x n at e h = rw (e, h) (keys_step j (Some (Map n at)) (twice (contents s (entries s 6 n at))))
 
-  by-key-allowed : (a b c : Bool) (j : Judged) (x : Item) → (cond a (with_name j x) (cond b (with_args s j x) (cond c (with_redirect j x) (unallowed j)))).allowed ≡ (j.allowed && cond a (is_name x) (cond b (is_args s x) (cond c (is_map x) false)))
-  by-key-allowed true b c j x = name-allowed j x (is_name x)
-  by-key-allowed false true c j x = args_allowed j x
-  by-key-allowed false false true j x = redirect_allowed j (is_map x)
-  by-key-allowed false false false j x = sym (and-false j.allowed)
-
-  pub all-allowed : (j : Judged) (es : List Entry) → (foldl (judge s) j es).allowed ≡ (j.allowed && all (allowed s) es)
-  unfolding all judge allowed
-  all-allowed j [] = sym (and-true j.allowed)
-  all-allowed j (e ∷ es) =
-      all-allowed (judge s j e) es
-      ∙ rw (by-key-allowed (has_key s name-key e) (has_key s args_key e) (has_key s redirect_key e) j (value_item s e)) (and_assoc j.allowed _ _)
-
-  -- What holds after each kind of step holds after the step of an allowed entry: a `name`, an `args`, or neither, which changes nothing.
-  module _ (P : Judged → Type 0) (j : Judged) (e : Entry) where
-    abbrev named : ℕ → ℕ → Judged
-    named start stop = record { allowed = j.allowed; name = first_bytes j.name (Bytes start stop); args = j.args; double = j.double }
-
-    abbrev given : ℕ → ℕ → Bool → Judged
-    given n at t = record { allowed = j.allowed; name = j.name; args = first_map j.args (Map n at); double = j.double || t }
-
-    keys_step : (n at : ℕ) (t : Bool) → P (given n at t) → P (with_keys j (Map n at) (cond t Double Single))
-    keys_step n at true p = rw (or-true j.double) at p
-    keys_step n at false p = rw (or-false j.double) at p
-
-    name-step : (x : Item) → is_name x ≡ true → ((start stop : ℕ) → x ≡ Bytes start stop → P (named start stop)) → P (with_name j x)
-    name-step x ok f =
-        let b = name-bytes x ok in
-        let p : P (record { allowed = j.allowed; name = first_bytes j.name x; args = j.args; double = j.double }) = rw b.2 (f b.0 b.1 b.2) in
-        rw ok p
-
-    args_step : (x : Item) → is_args s x ≡ true → ((n at : ℕ) → x ≡ Map n at → P (given n at (has_double s (Map n at)))) → P (with_args s j x)
-    unfolding keys_of
-    args_step x ok g =
-        let m = args_map x ok in
-        rw (m.2, m.3) (keys_step m.0 m.1 _ (g m.0 m.1 m.2))
-
-    by_tests : (a b c : Bool) (x : Item) → cond a (is_name x) (cond b (is_args s x) (cond c (is_map x) false)) ≡ true
-        → (a ≡ true → (start stop : ℕ) → x ≡ Bytes start stop → P (named start stop))
-        → (a ≡ false → b ≡ true → (n at : ℕ) → x ≡ Map n at → P (given n at (has_double s (Map n at))))
-        → (a ≡ false → b ≡ false → P j)
-        → P (cond a (with_name j x) (cond b (with_args s j x) (cond c (with_redirect j x) (unallowed j))))
-    by_tests true b c x ok f g h = name-step x ok (f refl)
-    by_tests false true c x ok f g h = args_step x ok (g refl refl)
-    by_tests false false true x ok f g h = rw ok (h refl refl)
-    by_tests false false false x ok f g h = absurd (false≢true ok)
-
-    by_key : allowed s e ≡ true
-        → (has_key s name-key e ≡ true → (start stop : ℕ) → value_item s e ≡ Bytes start stop → P (named start stop))
-        → (has_key s name-key e ≡ false → has_key s args_key e ≡ true → (n at : ℕ) → value_item s e ≡ Map n at → P (given n at (has_double s (Map n at))))
-        → (has_key s name-key e ≡ false → has_key s args_key e ≡ false → P j)
-        → P (judge s j e)
-    unfolding judge allowed
-    by_key ok f g h = by_tests (has_key s name-key e) (has_key s args_key e) (has_key s redirect_key e) (value_item s e) ok f g h
-
-  -- whether a key stands twice in an `args`
-  double-one : (j : Judged) (e : Entry) → allowed s e ≡ true → (judge s j e).double ≡ (j.double || args_double s e)
-  unfolding args_double
-  double-one j e ok = by_key (λ (k : Judged). k.double ≡ (j.double || (has_key s args_key e && has_double s (value_item s e)))) j e ok
-      (λ a start stop x. rw (one_key e a) (sym (or-false j.double)))
-      (λ a b n at x. rw (b, x))
-      (λ a b. rw b (sym (or-false j.double)))
-
-  any-double : (j : Judged) (es : List Entry) → all (allowed s) es ≡ true → (foldl (judge s) j es).double ≡ (j.double || any (args_double s) es)
-  unfolding all any
-  any-double j [] ok = sym (or-false j.double)
-  any-double j (e ∷ es) ok =
-      any-double (judge s j e) es (and_right (allowed s e) _ ok)
-      ∙ rw (double-one j e (and_left (allowed s e) _ ok)) (or_assoc j.double _ _)
-
-  -- The first value under a key: `part` is where the judgement keeps it, `Is` the kind of value that it then has.
-  module _ (key : List ℕ) (part : Judged → Item) (Is : Item → Type 0)
-      (stays : (j : Judged) (e : Entry) → allowed s e ≡ true → Is (part j) → part (judge s j e) ≡ part j)
-      (takes : (j : Judged) (e : Entry) → allowed s e ≡ true → has_key s key e ≡ true → part j ≡ Refused → (part (judge s j e) ≡ value_item s e) × Is (value_item s e))
-      (passes : (j : Judged) (e : Entry) → allowed s e ≡ true → has_key s key e ≡ false → part (judge s j e) ≡ part j) where
-    keeps : (j : Judged) (es : List Entry) → all (allowed s) es ≡ true → Is (part j) → part (foldl (judge s) j es) ≡ part j
-    unfolding all
-    keeps j [] ok i = refl
-    keeps j (e ∷ es) ok i =
-        let k = stays j e (and_left (allowed s e) _ ok) i in
-        keeps (judge s j e) es (and_right (allowed s e) _ ok) (rw k i) ∙ k
-
-    finds : (j : Judged) (es : List Entry) → all (allowed s) es ≡ true → part j ≡ Refused → part (foldl (judge s) j es) ≡ value_under s key es
-    unfolding all value_under find
-    finds j [] ok i = i
-    finds j (e ∷ es) ok i = by (has_key s key e) refl (finds (judge s j e) es (and_right (allowed s e) _ ok))
-      where
-        by : (b : Bool) → has_key s key e ≡ b → (part (judge s j e) ≡ Refused → part (foldl (judge s) (judge s j e) es) ≡ value_item s (find s key es)) → part (foldl (judge s) (judge s j e) es) ≡ value_item s (cond b e (find s key es))
-        by true h rest =
-            let t = takes j e (and_left (allowed s e) _ ok) h i in
-            keeps (judge s j e) es (and_right (allowed s e) _ ok) (rw t.0 t.1) ∙ t.0
-        by false h rest = rest (passes j e (and_left (allowed s e) _ ok) h ∙ i)
-
-  IsBytes : Item → Type 0
-  IsBytes x = (start : ℕ) × (stop : ℕ) × (x ≡ Bytes start stop)
-
-  IsMap : Item → Type 0
-  IsMap x = (n : ℕ) × (at : ℕ) × (x ≡ Map n at)
-
-  clash : {A : Type 0} {b : Bool} → b ≡ true → b ≡ false → A
-  clash h k = absurd (false≢true (sym k ∙ h))
-
-  name-stays : (j : Judged) (e : Entry) → allowed s e ≡ true → IsBytes j.name → (judge s j e).name ≡ j.name
-  unfolding IsBytes
-  name-stays j e ok i = by_key (λ (k : Judged). k.name ≡ j.name) j e ok (λ a start stop x. rw i.2) (λ a b n at x. refl) (λ a b. refl)
-
-  name-takes : (j : Judged) (e : Entry) → allowed s e ≡ true → has_key s name-key e ≡ true → j.name ≡ Refused → ((judge s j e).name ≡ value_item s e) × IsBytes (value_item s e)
-  unfolding IsBytes
-  name-takes j e ok h i = (
-    by_key (λ (k : Judged). k.name ≡ value_item s e) j e ok (λ a start stop x. rw (i, x)) (λ a b n at x. clash h a) (λ a b. clash h a),
-    by_key (λ (k : Judged). IsBytes (value_item s e)) j e ok (λ a start stop x. (start, stop, x)) (λ a b n at x. clash h a) (λ a b. clash h a),
+  by_tests : (j : Judged) (a b c : Bool) (x : Option Item) → (a ≡ true → b ≡ false) → cond a (is_name x) (cond b (is_args s x) (cond c (is_map x) false)) ≡ true
+      → (k : Judged) × (cond a (with_name j x) (cond b (with_args s j x) (cond c (with_redirect j x) None)) ≡ Some k) × Taken j k a b x
+  unfolding There
+  by_tests j true true c x o ok = absurd (false≢true (sym (o refl)))
+  by_tests j true false c x o ok = (
+    record j { name = option_or j.name x },
+    rw ok refl,
+    record { name = refl; args = sym (or-none j.args); double = sym (or-false j.double); name_there = λ h. name-there x ok; args_there = λ h. absurd (false≢true h) },
   )
-
-  name-passes : (j : Judged) (e : Entry) → allowed s e ≡ true → has_key s name-key e ≡ false → (judge s j e).name ≡ j.name
-  name-passes j e ok h = by_key (λ (k : Judged). k.name ≡ j.name) j e ok (λ a start stop x. clash a h) (λ a b n at x. refl) (λ a b. refl)
-
-  args_stays : (j : Judged) (e : Entry) → allowed s e ≡ true → IsMap j.args → (judge s j e).args ≡ j.args
-  unfolding IsMap
-  args_stays j e ok i = by_key (λ (k : Judged). k.args ≡ j.args) j e ok (λ a start stop x. refl) (λ a b n at x. rw i.2) (λ a b. refl)
-
-  args_takes : (j : Judged) (e : Entry) → allowed s e ≡ true → has_key s args_key e ≡ true → j.args ≡ Refused → ((judge s j e).args ≡ value_item s e) × IsMap (value_item s e)
-  unfolding IsMap
-  args_takes j e ok h i = (
-    by_key (λ (k : Judged). k.args ≡ value_item s e) j e ok (λ a start stop x. clash h (one_key e a)) (λ a b n at x. rw (i, x)) (λ a b. clash h b),
-    by_key (λ (k : Judged). IsMap (value_item s e)) j e ok (λ a start stop x. clash h (one_key e a)) (λ a b n at x. (n, at, x)) (λ a b. clash h b),
+  by_tests j false true c x o ok =
+      let m = args_map x ok in (
+        record j { args = option_or j.args x; double = j.double || has_double s x },
+        args_step j x m.0 m.1 m.2 m.3,
+        record { name = sym (or-none j.name); args = refl; double = refl; name_there = λ h. absurd (false≢true h); args_there = λ h. (Map m.0 m.1, m.2) },
+      )
+  by_tests j false false true x o ok = (
+    j,
+    rw ok refl,
+    record { name = sym (or-none j.name); args = sym (or-none j.args); double = sym (or-false j.double); name_there = λ h. absurd (false≢true h); args_there = λ h. absurd (false≢true h) },
   )
+  by_tests j false false false x o ok = absurd (false≢true ok)
 
-  args_passes : (j : Judged) (e : Entry) → allowed s e ≡ true → has_key s args_key e ≡ false → (judge s j e).args ≡ j.args
-  args_passes j e ok h = by_key (λ (k : Judged). k.args ≡ j.args) j e ok (λ a start stop x. refl) (λ a b n at x. clash b h) (λ a b. refl)
+  takes : (j : Judged) (e : Entry) → allowed s e ≡ true
+      → (k : Judged) × (judge s j e ≡ Some k) × Taken j k (has_key s name-key e) (has_key s args_key e) (value_item s e)
+  unfolding judge allowed
+  takes j e ok = by_tests j (has_key s name-key e) (has_key s args_key e) (has_key s redirect_key e) (value_item s e) (one_key e) ok
+
+  -- an entry that is not allowed leaves none
+  args_refused : (j : Judged) (x : Option Item) → is_args s x ≡ false → with_args s j x ≡ None
+  unfolding keys_of
+  args_refused j (Some (Unsigned n next)) h = refl
+  args_refused j (Some (Negative n next)) h = refl
+  args_refused j (Some (Bytes start stop)) h = refl
+  args_refused j (Some (Simple next)) h = refl
+  args_refused j (Some (Array n at)) h = refl
+  args_refused j (Some (Map n at)) h = rw h refl
+  args_refused j (Some (Set n at)) h = refl
+  args_refused j None h = refl
+
+  by_refusals : (j : Judged) (a b c : Bool) (x : Option Item) → cond a (is_name x) (cond b (is_args s x) (cond c (is_map x) false)) ≡ false
+      → cond a (with_name j x) (cond b (with_args s j x) (cond c (with_redirect j x) None)) ≡ None
+  by_refusals j true b c x h = rw h refl
+  by_refusals j false true c x h = args_refused j x h
+  by_refusals j false false true x h = rw h refl
+  by_refusals j false false false x h = refl
+
+  refuses : (j : Judged) (e : Entry) → allowed s e ≡ false → judge s j e ≡ None
+  unfolding judge allowed
+  refuses j e h = by_refusals j (has_key s name-key e) (has_key s args_key e) (has_key s redirect_key e) (value_item s e) h
+
+  -- the value under a key of an entry and others
+  value-more : (key : List ℕ) (e : Entry) (es : List Entry) → (has_key s key e ≡ true → There (value_item s e))
+      → value_under s key (e ∷ es) ≡ option_or (cond (has_key s key e) (value_item s e) None) (value_under s key es)
+  unfolding value_under find
+  value-more key e es t = by (has_key s key e) t
+    where
+      by : (b : Bool) → (b ≡ true → There (value_item s e))
+          → value_found s (cond b (Some e) (find s key es)) ≡ option_or (cond b (value_item s e) None) (value_found s (find s key es))
+      by true t = sym (or-first (value_item s e) _ (t refl))
+      by false t = refl
+
+  or-value : (o : Option Item) (key : List ℕ) → o ≡ option_or o (value_under s key [])
+  unfolding value_under find
+  or-value o key = sym (or-none o)
+
+  or-more : (o : Option Item) (key : List ℕ) (e : Entry) (es : List Entry) → (has_key s key e ≡ true → There (value_item s e))
+      → option_or (option_or o (cond (has_key s key e) (value_item s e) None)) (value_under s key es) ≡ option_or o (value_under s key (e ∷ es))
+  or-more o key e es t = first_of o _ _ ∙ ap (option_or o) (sym (value-more key e es t))
+
+  -- What entries that are allowed make of a judgement: the first `name` and the first `args`, and whether a key stands twice in an `args`.
+  record Judges (j k : Judged) (es : List Entry) : Type 0 where
+    name : k.name ≡ option_or j.name (value_under s name-key es)
+    args : k.args ≡ option_or j.args (value_under s args_key es)
+    double : k.double ≡ (j.double || any (args_double s) es)
+
+  judges : (j : Judged) (es : List Entry) → all (allowed s) es ≡ true → (k : Judged) × (foldl (judge_next s) (Some j) es ≡ Some k) × Judges j k es
+  unfolding all any args_double
+  judges j [] ok = (j, refl, record { name = or-value j.name name-key; args = or-value j.args args_key; double = sym (or-false j.double) })
+  judges j (e ∷ es) ok =
+      let t = takes j e (and_left (allowed s e) _ ok) in
+      let r = judges t.0 es (and_right (allowed s e) _ ok) in (
+        r.0,
+        rw t.1 r.1,
+        record {
+          name = r.2.name ∙ ap (λ o. option_or o (value_under s name-key es)) t.2.name ∙ or-more j.name name-key e es t.2.name_there;
+          args = r.2.args ∙ ap (λ o. option_or o (value_under s args_key es)) t.2.args ∙ or-more j.args args_key e es t.2.args_there;
+          double = r.2.double ∙ ap (λ b. b || any (args_double s) es) t.2.double ∙ or_assoc j.double _ _;
+        },
+      )
+
+  -- by what `and_then` answers
+  pub next-judged : (o r : Option Judged) (e : Entry) → MatchOption o (r ≡ None) (λ j. r ≡ judge s j e) → r ≡ judge_next s o e
+  next-judged None r e h = h
+  next-judged (Some j) r e h = h
+
+  none-stays : (es : List Entry) → foldl (judge_next s) None es ≡ None
+  none-stays [] = refl
+  none-stays (e ∷ es) = none-stays es
+
+  judges-none : (j : Judged) (es : List Entry) → all (allowed s) es ≡ false → foldl (judge_next s) (Some j) es ≡ None
+  unfolding all
+  judges-none j [] h = absurd (false≢true (sym h))
+  judges-none j (e ∷ es) h = by (allowed s e) refl h (λ k. judges-none k es)
+    where
+      by : (b : Bool) → allowed s e ≡ b → (b && all (allowed s) es) ≡ false → ((k : Judged) → all (allowed s) es ≡ false → foldl (judge_next s) (Some k) es ≡ None)
+          → foldl (judge_next s) (judge s j e) es ≡ None
+      by true ok n rest = let t = takes j e ok in rw t.1 (rest t.0 n)
+      by false ok n rest = rw (refuses j e ok) (none-stays es)
+
+  -- where there is a judgement every entry is allowed
+  pub all-allowed : (es : List Entry) (j : Judged) → judged s es ≡ Some j → all (allowed s) es ≡ true
+  all-allowed es j h = by (all (allowed s) es) refl
+    where
+      by : (b : Bool) → all (allowed s) es ≡ b → all (allowed s) es ≡ true
+      by true e = e
+      by false e = absurd (let z : ◌≡◌ {A = Option Judged} None (Some j) = sym (judges-none none_judged es e) ∙ h in (let y : ◌≡◌ {A = ℕ} 0 1 = cc in omega arith))
 
   -- the command map, by the judgement and by whether a key stands twice in it
-  double_too : (t d : Bool) (start stop : ℕ) (args : Item) → cond (t || d) DoubleKey (command_with start stop args) ≡ also_double t (cond d DoubleKey (command_with start stop args))
-  double_too true true start stop args = refl
-  double_too true false start stop args = by_map (λ (c : Checked). DoubleKey ≡ also_double true c) args _ _ (λ n at e. refl) refl
-  double_too false true start stop args = refl
-  double_too false false start stop args = sym (still-single (command_with start stop args))
+  double_too : (t d : Bool) (c : Command) → ◌≡◌ {A = Checked} (cond (t || d) (Err DoubleKey) (Ok c)) (also_double t (cond d (Err DoubleKey) (Ok c)))
+  double_too true true c = refl
+  double_too true false c = refl
+  double_too false true c = refl
+  double_too false false c = refl
 
   pub judgement_holds : JudgementHolds s
   unfolding map_of double
   judgement_holds es = by (all (allowed s) es) refl
     where
-      by : (b : Bool) → all (allowed s) es ≡ b → map_of s es ≡ also_double (twice (contents s es)) (command_of (foldl (judge s) none_judged es))
-      by false h = rw (all-allowed none_judged es, h)
-      by true h = rw (
-        all-allowed none_judged es,
-        h,
-        finds name-key (λ (j : Judged). j.name) IsBytes name-stays name-takes name-passes none_judged es h refl,
-        finds args_key (λ (j : Judged). j.args) IsMap args_stays args_takes args_passes none_judged es h refl,
-        any-double none_judged es h,
-      )
-          (after-bytes (also_double (twice (contents s es))) (value_under s name-key es) _ NotCommand _ NotCommand
-          (λ start stop. double_too (twice (contents s es)) (any (args_double s) es) start stop (value_under s args_key es)) refl)
+      by : (b : Bool) → all (allowed s) es ≡ b → map_of s es ≡ also_double (twice (contents s es)) (command_of (judged s es))
+      by false h = rw (judges-none none_judged es h, h)
+      by true h =
+          let f = judges none_judged es h in
+          rw (h, f.1, f.2.name, f.2.args, f.2.double)
+          (after-bytes (also_double (twice (contents s es))) (value_under s name-key es) _ (Err NotCommand) _ (Err NotCommand)
+          (λ start stop. double_too (twice (contents s es)) (any (args_double s) es) (command_with start stop (value_under s args_key es))) refl)
+
+  -- by what the walk answers
+  pub walked-to : (n at : ℕ) (starts stops : List ℕ) (o : Option Fields) (f : Fields) → o ≡ Some f → Walked s n at starts stops o → WalkedTo s n at starts stops f
+  walked-to n at starts stops o f e w = rw e at w
 
   -- the check of a map that ends where the bytes do, by what the walk over it left
-  pub map_whole : (n at p : ℕ) (starts stops : List ℕ) (f : Fields) → Walked s n at starts stops f → f.end ≡ At p → p ≡ length s → map_checked s n at ≡ also_double (twice (contents s (entries s 7 n at))) (command_of f.judged)
+  pub map_whole : (n at : ℕ) (starts stops : List ℕ) (f : Fields) → WalkedTo s n at starts stops f → f.end ≡ length s → map_checked s n at ≡ also_double (twice (contents s (entries s 7 n at))) (command_of f.judged)
   unfolding map_checked
-  map_whole n at p starts stops f w e h = rw (← w.ends, e, eq-eqb p (length s) h, judgement_holds, ← w.judged)
+  map_whole n at starts stops f w h = rw (← w.ends, eq-eqb f.end (length s) h, judgement_holds, ← w.all)

@@ -2,15 +2,8 @@
 use Rattle.std.specs.Prelude.{◌≡◌, ℕ, ◌+◌, ◌%◌, ◌^◌, ◌≤◌, List, length, take, drop}
 use Rattle.logs.specs.Laws.{at_once}
 use Rattle.convert.specs.declared.input.Front.{Front}
-use Rattle.convert.specs.declared.input.Run.{Run}
-
--- the longest record with a two-byte length
-abbrev pub longest_old : ℕ
-longest_old = 65539
-
--- the bytes that are held and read at a time
-abbrev pub room_length : ℕ
-room_length = 131072
+use Rattle.convert.specs.declared.run.Run.{Run}
+use Rattle.convert.specs.Sizes.{longest_old}
 
 -- the output begins with the new form of the whole records in front, and what is left is no longer than the longest record
 pub record Rewritten (s : List ℕ) (r : Front) (out : List ℕ) : Type 0 where

@@ -1,10 +1,12 @@
 // One log: it is read in pieces. Held are a record that is not all there yet and the piece behind it. The whole records of what is held are
 // converted and written, and the rest stays held.
-ghost use Rattle.std.specs.Prelude.{◌≡◌, ◌+◌, ◌≤◌, true, false, length, take, IfOk};
-ghost use Rattle.keys.specs.Keys.{part};
-ghost use Rattle.convert.specs.Turns.{longest_old, room_length, Rewritten, Turned};
+ghost use Rattle.std.specs.Prelude.{◌+◌, ◌≤◌, length, take, IfOk};
+ghost use Rattle.convert.specs.Sizes.{room_length};
+ghost use Rattle.convert.specs.Turns.{Rewritten, Turned};
 
-use crate::say;
+use crate::run::Run;
+use crate::say::Fault;
+use files::Unread;
 use std::io::{Print, Read};
 
 // The longest record with a two-byte length has 65,539 bytes. So behind one that is not all there the room always has places for the next
@@ -18,148 +20,81 @@ type Room = [u8; ROOM];
 
 type Output = [u8; OUTPUT];
 
-// How many bytes are held, at the front of the room; how many of the log's bytes came before them, all in whole records; and whether
-// reading goes on: the log lasts, and the output is taken.
-#[derive(Clone, Copy)]
-struct Run {
-    held: usize,
-    place: u64,
-    is_going: bool,
-}
-
 // How many bytes the whole records in front take, and how many they take in the new form.
+// Stays beside the like struct of logs, which is private there: what it says is proved of `whole` and `convert`.
 #[derive(Clone, Copy)]
 struct Front {
     taken: usize,
     written: usize,
 }
 
-// Reads a log to its end and writes the new one. A proved loop has to end, and nothing says that the log does. So the loop counts its turns
-// down, from a number that no run uses up.
-pub(crate) fn convert_input(
-    input: &mut impl Read,
-    name: &[u8],
-    output: &impl Print,
-    errors: &impl Print,
-) {
+// Reads a log to its end and writes the new one. A proved loop has to end, and nothing says that the log does: no run uses up so many turns.
+pub(crate) fn convert_input(input: &mut impl Read, output: &impl Print) -> Result<(), Fault> {
     let mut room = [0u8; ROOM];
     let mut out = [0u8; OUTPUT];
-    let mut run = Run {
-        held: 0,
-        place: 0,
-        is_going: true,
-    };
-    let mut turns = u64::MAX;
-    while turns > 0 {
-        if !run.is_going {
-            return;
+    let mut run = Run::start();
+    for _ in 0..u64::MAX {
+        let n = run.read(input, &mut room)?;
+        if n == 0 {
+            return run.at_end();
         }
-        run = read_some(run, input, name, output, errors, &mut room, &mut out);
-        turns -= 1;
+        run = run.convert(n, output, &mut room, &mut out)?;
     }
+    Ok(())
 }
 
-// Reads once, behind the bytes held, and converts what is whole.
-fn read_some(
-    run: Run,
-    input: &mut impl Read,
-    name: &[u8],
-    output: &impl Print,
-    errors: &impl Print,
-    room: &mut Room,
-    out: &mut Output,
-) -> Run
-    requires { run.held ≤ longest_old }
-    ensures { result.held ≤ longest_old }
-{
-    let held = run.held;
-    match read_behind(input, room, held) {
-        Ok(0) => at_end(run, errors),
-        Ok(n) => convert_held(run, held + n, output, errors, room, out),
-        Err(error) => {
-            files::say_unread(errors, name, error);
-            ended(run)
+impl Run {
+    // Before the first byte.
+    fn start() -> Run {
+        Run { held: 0, place: 0 }
+    }
+
+    // Reads once, behind the bytes held, and answers how many bytes came.
+    fn read(self, input: &mut impl Read, room: &mut Room) -> Result<usize, Unread>
+        ensures { IfOk result (λ n. self.held + n ≤ room_length) }
+    {
+        files::read(input, &mut room[self.held..])
+    }
+
+    // The end of the log, which may lie inside a record.
+    fn at_end(self) -> Result<(), Fault> {
+        match self.held {
+            0 => Ok(()),
+            _ => Err(Fault::Broken(self.place)),
         }
     }
-}
 
-// One read into a room, from a place on.
-fn read_behind(input: &mut impl Read, room: &mut [u8], at: usize) -> Result<usize, i32>
-    requires { at ≤ length room.old }
-    ensures { IfOk result (λ n. at + n ≤ length room.new) }
-{
-    files::read(input, &mut room[at..])
-}
-
-// The run at the end of the log, which may lie inside a record.
-fn at_end(run: Run, errors: &impl Print) -> Run
-    requires { run.held ≤ longest_old }
-    ensures { result.held ≤ longest_old }
-{
-    if run.held != 0 {
-        say::say_broken(errors, run.place);
-    }
-    ended(run)
-}
-
-// Nothing more is read.
-fn ended(run: Run) -> Run
-    requires { run.held ≤ longest_old }
-    ensures { (result.held ≤ longest_old) × (result.is_going ≡ false) }
-{
-    let mut next = run;
-    next.is_going = false;
-    next
-}
-
-// Converts the whole records of the bytes held, writes them, and moves the rest to the front.
-fn convert_held(
-    run: Run,
-    held: usize,
-    output: &impl Print,
-    errors: &impl Print,
-    room: &mut Room,
-    out: &mut Output,
-) -> Run
-    requires { run.held ≤ longest_old }
-    ensures { (result.held ≤ longest_old) × (result.is_going ≡ true → Turned (part room.old 0 held) run.place result room.new) }
-{
-    let front = convert_front(keys::part(&room[..], 0, held), out);
-    if !files::write(output, keys::part(&out[..], 0, front.written)) {
-        say::say_unwritten(errors);
-        return ended(run);
-    }
-    let taken = front.taken;
-    Run {
-        held: move_rest(room, taken, held, out),
-        place: std::num::wrapping_add_u64(run.place, taken as u64),
-        is_going: true,
+    // Converts the whole records of the bytes held and of those that came, writes them, and moves the rest to the front.
+    fn convert(
+        self,
+        came: usize,
+        output: &impl Print,
+        room: &mut Room,
+        out: &mut Output,
+    ) -> Result<Run, Fault>
+        requires { self.held + came ≤ room_length }
+        ensures { IfOk result (λ run. Turned (take (self.held + came) room.old) self.place run room.new) }
+    {
+        let held = self.held + came;
+        let front = convert_front(&room[..held], out);
+        output
+            .write_all(&out[..front.written])
+            .map_err(|_| Fault::Unwritten)?;
+        room.copy_within(front.taken..held, 0);
+        Ok(Run {
+            held: held - front.taken,
+            place: self.place.wrapping_add(front.taken as u64),
+        })
     }
 }
 
 // Puts the new form of the whole records in front of some bytes to the front of the output.
 fn convert_front(bytes: &[u8], out: &mut Output) -> Front
     requires { length bytes.now ≤ room_length }
-    ensures { Rewritten bytes.now result out.new }
+    ensures front { Rewritten bytes.now result out.new }
+    ensures within { (result.taken ≤ length bytes.now) × (result.written ≤ length out.new) }
 {
     let taken = logs::whole(bytes);
-    let done = logs::convert(keys::part(bytes, 0, taken), out);
-    Front {
-        taken,
-        written: done.written,
-    }
-}
-
-// Moves the bytes from a place up to another to the front, by way of the output, and answers how many they are. They are bytes of the last
-// piece, or stand at the front already, since before that piece nothing held was whole.
-fn move_rest(room: &mut Room, from: usize, held: usize, out: &mut Output) -> usize
-    ensures { (result ≡ length (part room.old from held)) × (take result room.new ≡ part room.old from held) }
-{
-    let rest = keys::part(&room[..], from, held);
-    let left = rest.len();
-    if 0 < from {
-        buffer::put(out, 0, rest);
-        buffer::put(room, 0, keys::part(&out[..], 0, left));
-    }
-    left
+    let written = logs::convert(&bytes[..taken], out).unwrap();
+    Front { taken, written }
 }

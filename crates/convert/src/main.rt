@@ -4,48 +4,35 @@
 #![tactic(auto)]
 
 mod input;
+mod run;
 mod say;
 
-use files::Source;
+use files::{Source, Word};
 
 fn main(rt: HostRuntime) {
-    let count = files::arg_count(&rt);
-    if count < 2 {
-        convert_source(&rt, Source::Standard(rt.stdin()), b"");
-        return;
+    match files::arg_count(&rt) {
+        0 | 1 => convert_source(&rt, Source::Standard(rt.stdin()), b""),
+        2 => take_argument(&rt),
+        _ => say::say_many(&rt.stderr()),
     }
-    if 2 < count {
-        say::say_many(&rt.stderr());
-        return;
-    }
-    take_argument(&rt);
 }
 
 // Does what the argument asks. One that is empty, or longer than a path, is no name.
+// Stays beside the like functions of receive: one for both would be handed the help, the name, the outputs and what is done with a file.
 fn take_argument(rt: &HostRuntime) {
-    let mut word = [0u8; files::WORD];
-    match files::arg(rt, 1, &mut word) {
-        Ok(n) => take_word(rt, keys::part(&word, 0, n)),
+    match Word::of(rt, 1) {
+        Ok(word) => take_word(rt, word.as_slice()),
         Err(error) => files::say_nameless(&rt.stderr(), 1, error),
     }
 }
 
 // An option, or a log's name.
 fn take_word(rt: &HostRuntime, word: &[u8]) {
-    if files::is_option(word) {
-        answer(rt, word);
-        return;
+    match word {
+        b"--help" => say::say_help(&rt.stdout()),
+        _ if files::is_option(word) => files::say_unknown(&rt.stderr(), word, b"convert"),
+        _ => take_file(rt, word),
     }
-    take_file(rt, word);
-}
-
-// Writes what an option asks for.
-fn answer(rt: &HostRuntime, option: &[u8]) {
-    if keys::same_key(option, b"--help") {
-        say::say_help(&rt.stdout());
-        return;
-    }
-    files::say_unknown(&rt.stderr(), option, b"convert");
 }
 
 // Opens a log and converts it. The file stays open to the program's end, which follows.
@@ -57,7 +44,8 @@ fn take_file(rt: &HostRuntime, name: &[u8]) {
 }
 
 // Converts a log from standard input or from a file.
-fn convert_source(rt: &HostRuntime, source: Source, name: &[u8]) {
-    let mut input = source;
-    input::convert_input(&mut input, name, &rt.stdout(), &rt.stderr());
+fn convert_source(rt: &HostRuntime, mut source: Source, name: &[u8]) {
+    if let Err(fault) = input::convert_input(&mut source, &rt.stdout()) {
+        say::say_fault(&rt.stderr(), name, fault);
+    }
 }

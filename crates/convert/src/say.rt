@@ -1,24 +1,38 @@
-// Writes what is wrong to standard error, a line for each, and the help to standard output.
+// Writes what is wrong to standard error, in a line, and the help to standard output.
+use files::Unread;
 use std::io::Print;
 
-// Writes that the log ends inside a record, and the place, from 0, where that record starts.
-pub(crate) fn say_broken(errors: &impl Print, place: u64) {
-    files::write(errors, b"broken at byte ");
-    files::write_decimal(errors, place);
-    files::write(errors, b"\n");
+// Why a log is not converted to its end: it cannot be read; it ends inside a record, which starts at that place, counted from 0; the output
+// does not take the new log.
+#[derive(Clone, Copy, Debug, PartialEq, Eq)]
+pub(crate) enum Fault {
+    Unread(Unread),
+    Broken(u64),
+    Unwritten,
 }
 
-// Writes that the new log cannot be written.
-pub(crate) fn say_unwritten(errors: &impl Print) {
-    files::write(errors, b"the output cannot be written\n");
+impl From<Unread> for Fault {
+    fn from(error: Unread) -> Fault {
+        Fault::Unread(error)
+    }
+}
+
+// Writes why a log, by its name, is not converted to its end.
+pub(crate) fn say_fault(errors: &impl Print, name: &[u8], fault: Fault) {
+    match fault {
+        Fault::Unread(error) => files::say_unread(errors, name, error),
+        Fault::Broken(place) => {
+            let _ = println!(errors; "broken at byte {place}");
+        }
+        Fault::Unwritten => {
+            let _ = println!(errors; "the output cannot be written");
+        }
+    }
 }
 
 // Writes that there is more than one argument.
 pub(crate) fn say_many(errors: &impl Print) {
-    files::write(
-        errors,
-        b"convert takes one log; convert --help says what there is\n",
-    );
+    let _ = println!(errors; "convert takes one log; convert --help says what there is");
 }
 
 // Writes what the program does.

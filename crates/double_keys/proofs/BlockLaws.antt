@@ -1,10 +1,11 @@
 -- The laws of the search in blocks: what taking a block leaves, when a key stands twice in two lists of keys together, what the search in
 -- one block shows, and that the entries behind a prefix have the keys of those in the rest.
 -- Assumes nothing.
+use Rattle.std.specs.Prelude.{Option, None, Some}
 use mathlib.Core.Path.{◌≡◌, refl, sym, ap, ◌∙◌}
 use mathlib.Core.Logic.{⊎_elim}
 use mathlib.Core.Bool.{Bool, true, false, cond, ◌||◌, or_assoc}
-use mathlib.Core.List.{List, [], ◌∷◌, ◌++◌, append-nil}
+use mathlib.Core.List.{List, [], ◌∷◌, ◌++◌}
 use Prim.Native.Nat.{ℕ, ◌+◌, ◌-◌, ◌≤◌, ◌<◌}
 use native.Mathlib.Nat.{eq-or-lt_of_le}
 use native.Mathlib.Omega.{arith}
@@ -13,62 +14,68 @@ use lib.Dec.{ltb, leb}
 use lib.Seq.{take_all, length-take-le, get_or-set_same, get_or-set_other}
 use borrow.Author.Tests.{ltb-true}
 use Rattle.cbor.specs.declared.Item.{Item}
-use Rattle.cbor.specs.declared.Item.TheVariants.{Unsigned, Negative, Bytes, Simple, Array, Map, Set, Refused}
-use Rattle.cbor.specs.declared.Next.{Next}
-use Rattle.cbor.specs.declared.Next.TheVariants.{At, Bad}
+use Rattle.cbor.specs.declared.Item.TheVariants.{Unsigned, Negative, Bytes, Simple, Array, Map, Set}
 use Rattle.cbor.specs.Cbor.{Reader, item_at}
 use Rattle.cbor.proofs.Ahead.{Item-ahead, Ahead, Moves, item-ahead, value-moves}
 use Rattle.keys.specs.Keys.{part, equal, among, twice}
 use Rattle.keys.proofs.Equal.{equal-sym}
 use Rattle.entries.specs.declared.Entry.{Entry}
-use Rattle.entries.specs.declared.Entry.TheVariants.{Keyed, Other, Broken}
+use Rattle.entries.specs.declared.Entry.TheVariants.{Keyed, Other}
 use Rattle.entries.specs.Entries.{next_of, again, keyed, other, entry_of, entry_at, entries, contents}
 use Rattle.entries.proofs.Bools.{and_left, and_right}
-use Rattle.entries.proofs.Walk.{ends, goes, twice-more}
+use Rattle.entries.proofs.Walk.{goes, twice-more}
 use Rattle.entries.proofs.Shift.{entries_shift, contents_shift}
+use Rattle.double_keys.specs.declared.walk.Entries.{Entries}
 use Rattle.double_keys.specs.declared.blocks.Block.{Block}
+use Rattle.double_keys.specs.Entries.{to_come, keys_to_come, FromHere}
+use Rattle.double_keys.specs.Walk.{Gives}
 use Rattle.double_keys.specs.Row.{kept, room_for, kept_count, kept_starts, kept_stops, Keeps}
 use Rattle.double_keys.specs.Search.{Places}
 use Rattle.double_keys.specs.Blocks.{entry_among, meet, block_double, Blocked}
-use Rattle.double_keys.proofs.RowLaws.{Walking, Over, begun, turn}
+use Rattle.double_keys.proofs.RowLaws.{Walking, begun, turn}
 
 -- An entry that was read lies in s: its key starts before it stops, and neither that nor the position after the entry is past the end.
 module _ (s : List ℕ) where
   abbrev Lies : Entry → Type 0
   Lies (Keyed start stop next) = (start ≤ stop) × (stop ≤ length s) × (next ≤ length s)
   Lies (Other next) = next ≤ length s
-  Lies Broken = Unit {0}
 
-  keyed_lies : (start stop : ℕ) (x : Next) → start ≤ stop → stop ≤ length s → Ahead s stop x → Lies (keyed start stop x)
-  keyed_lies start stop (At q) h k a = (h, k, a.1)
-  keyed_lies start stop Bad h k a = tt
+  abbrev Each-lies : Option Entry → Type 0
+  Each-lies None = Unit {0}
+  Each-lies (Some e) = Lies e
 
-  other_lies : (p : ℕ) (x : Next) → Ahead s p x → Lies (other x)
-  other_lies p (At q) a = a.1
-  other_lies p Bad a = tt
+  keyed_lies : (start stop : ℕ) (x : Option ℕ) → start ≤ stop → stop ≤ length s → Ahead s stop x → Each-lies (keyed start stop x)
+  keyed_lies start stop (Some q) h k a = (h, k, a.1)
+  keyed_lies start stop None h k a = tt
 
-  entry_of_lies : {r : Reader} → Moves s r → (p : ℕ) (x : Item) → Item-ahead s p x → Lies (entry_of r x)
-  entry_of_lies {r} m p (Unsigned n q) a = other_lies q (r q) (m.ahead q)
-  entry_of_lies {r} m p (Negative n q) a = other_lies q (r q) (m.ahead q)
-  entry_of_lies {r} m p (Bytes start q) a = keyed_lies start q (r q) a.2 a.1 (m.ahead q)
-  entry_of_lies {r} m p (Simple q) a = other_lies q (r q) (m.ahead q)
-  entry_of_lies m p (Array n q) a = tt
-  entry_of_lies m p (Map n q) a = tt
-  entry_of_lies m p (Set n q) a = tt
-  entry_of_lies m p Refused a = tt
+  other_lies : (p : ℕ) (x : Option ℕ) → Ahead s p x → Each-lies (other x)
+  other_lies p (Some q) a = a.1
+  other_lies p None a = tt
 
-  entry_lies : (levels p : ℕ) → Lies (entry_at s levels p)
+  entry_of_lies : {r : Reader} → Moves s r → (p : ℕ) (x : Option Item) → Item-ahead s p x → Each-lies (entry_of r x)
+  entry_of_lies {r} m p (Some (Unsigned n q)) a = other_lies q (r q) (m.ahead q)
+  entry_of_lies {r} m p (Some (Negative n q)) a = other_lies q (r q) (m.ahead q)
+  entry_of_lies {r} m p (Some (Bytes start q)) a = keyed_lies start q (r q) a.2 a.1 (m.ahead q)
+  entry_of_lies {r} m p (Some (Simple q)) a = other_lies q (r q) (m.ahead q)
+  entry_of_lies m p (Some (Array n q)) a = tt
+  entry_of_lies m p (Some (Map n q)) a = tt
+  entry_of_lies m p (Some (Set n q)) a = tt
+  entry_of_lies m p None a = tt
+
+  entry_lies : (levels p : ℕ) → Each-lies (entry_at s levels p)
   unfolding entry_at
   entry_lies levels p = entry_of_lies (value-moves s levels) p (item_at s p) (item-ahead s p)
 
-  next_lies : (e : Entry) (q : ℕ) → Lies e → next_of e ≡ At q → q ≤ length s
-  next_lies (Keyed start stop next) q h k = let e : next ≡ q = cc in omega arith
-  next_lies (Other next) q h k = let e : next ≡ q = cc in omega arith
-  next_lies Broken q h k = let z : ◌≡◌ {A = ℕ} 0 1 = cc in omega arith
+  -- by what `read_entry` answers
+  read_lies : (levels p : ℕ) (e : Entry) → Some e ≡ entry_at s levels p → Lies e
+  read_lies levels p e h = rw (← h) at (entry_lies levels p)
 
-  -- by what `read_entry` and `next_of` answer
-  next-within : (levels p : ℕ) {q : ℕ} {e : Entry} {x : Next} → e ≡ entry_at s levels p → x ≡ next_of e → x ≡ At q → q ≤ length s
-  next-within levels p {q} read after h = next_lies (entry_at s levels p) q (entry_lies levels p) (rw (← read) (sym after ∙ h))
+  next_lies : (e : Entry) → Lies e → next_of e ≤ length s
+  next_lies (Keyed start stop next) h = h.2
+  next_lies (Other next) h = h
+
+  next-within : (levels p : ℕ) (e : Entry) → Some e ≡ entry_at s levels p → next_of e ≤ length s
+  next-within levels p e h = next_lies e (read_lies levels p e h)
 
 -- The law of blocks, for two lists of keys one behind the other.
 or_four : (a b c d : Bool) → (a || b || (c || d)) ≡ (a || c || (b || d))
@@ -111,7 +118,6 @@ pub meet-first : (s : List ℕ) (ks : List (List ℕ)) (e : Entry) (es : List En
 unfolding contents meet
 meet-first s ks (Keyed start stop next) es = refl
 meet-first s ks (Other next) es = refl
-meet-first s ks Broken es = refl
 
 -- What `keep` leaves of a row of places in s, for an entry that lies in s: if it answers a number past the row's end, the row as it was; if
 -- not, places in s.
@@ -153,53 +159,77 @@ module _ (s starts stops : List ℕ) (k : ℕ) (h : Places s starts stops k) whe
   unfolding kept_count kept_starts kept_stops
   leaving_of (Keyed a b q) i = by-room a b q i (room_for starts stops k a b) refl
   leaving_of (Other q) i = leaving_none
-  leaving_of Broken i = leaving_none
 
   keeps_leaving : {starts' stops' : List ℕ} {e : Entry} {r : ℕ} → Lies s e → Keeps starts stops starts' stops' k e r → Leaving s starts stops starts' stops' r
   keeps_leaving {e} i g = rw (g.count, g.starts_after, g.stops_after) (leaving_of e i)
 
--- A block on the way: a walk over the n entries from the start of s on with a row whose k places lie in s, as does p.
-module _ (s : List ℕ) (levels n : ℕ) where
-  pub record Taking (starts₀ stops₀ starts stops : List ℕ) (p left k : ℕ) : Type 0 where
-    pub walk : Walking s levels n 0 starts₀ stops₀ starts stops p left k
-    pub in_s : Places s starts stops k
-    pub before : p ≤ length s
-    pub fewer : left ≤ n
+-- what a call of the iterator answers and leaves
+abbrev pub Given : Entries → Option Entry → Entries → Type 0
+Given x e y = Gives x.s.now x.levels x.left x.at e y.left y.at × (y.s.now ≡ x.s.now) × (y.levels ≡ x.levels)
 
-  pub taking : (starts stops : List ℕ) → Taking starts stops starts stops 0 n 0
-  taking starts stops = record { walk = begun s levels n 0 starts stops; in_s = (omega arith, omega arith, λ t h. absurd (omega arith)); before = omega arith; fewer = omega arith }
+-- What the iterator gives: the first entry, if there is one, and then those that follow it.
+module _ (x y : Entries) (e : Entry) (g : Given x (Some e) y) where
+  pub first : to_come x ≡ e ∷ to_come y
+  first = rw (g.1, g.2, g.0.2, g.0.3) (goes x.s.now x.levels x.left x.at e g.0.0 g.0.1)
 
-module _ {s : List ℕ} {levels n : ℕ} {starts₀ stops₀ starts stops : List ℕ} {p left k : ℕ} (w : Taking s levels n starts₀ stops₀ starts stops p left k) where
-  -- the end: no entry is to come
-  pub taken-all : {end : Next} → Over s levels n 0 starts stops p left k end → Blocked s levels n starts₀ starts stops (record { count = k; left = 0; next = p })
-  unfolding contents
-  taken-all o = record {
+  pub twice-first : twice (keys_to_come x) ≡ (again y.s.now e (to_come y) || twice (keys_to_come y))
+  twice-first = rw (first, ← g.1) (twice-more y.s.now e (to_come y))
+
+  pub meet-given : (ks : List (List ℕ)) → meet ks (keys_to_come x) ≡ (entry_among x.s.now ks e || meet ks (keys_to_come y))
+  meet-given ks = rw (first, ← g.1) (meet-first y.s.now ks e (to_come y))
+
+  -- it lies in s, and so do those that follow
+  pub within : y.at ≤ length y.s.now
+  within = rw (g.1, g.0.3) (next-within x.s.now x.levels x.at e g.0.1)
+
+-- A block on the way: a walk over all of the entries with a row whose places lie in s.
+pub record Taking (all : Entries) (starts₀ stops₀ starts stops : List ℕ) (b : Block) : Type 0 where
+  pub walk : Walking all.s.now all.levels all.left all.at starts₀ stops₀ starts stops b.rest.at b.rest.left b.count
+  pub in_s : Places all.s.now starts stops b.count
+  pub fewer : b.rest.left ≤ all.left
+  pub same_s : b.rest.s.now ≡ all.s.now
+  pub same_levels : b.rest.levels ≡ all.levels
+
+pub taking : (all : Entries) (starts stops : List ℕ) → Taking all starts stops starts stops (record { count = 0; rest = all })
+taking all starts stops = record {
+  walk = begun all.s.now all.levels all.left all.at starts stops;
+  in_s = (omega arith, omega arith, λ t h. absurd (omega arith));
+  fewer = omega arith;
+  same_s = refl;
+  same_levels = refl;
+}
+
+module _ {all : Entries} {starts₀ stops₀ starts stops : List ℕ} {b : Block} (w : Taking all starts₀ stops₀ starts stops b) where
+  -- the block may end here
+  pub taken : Blocked all starts₀ starts stops b
+  taken = record {
     long = w.walk.long;
     in_s = w.in_s;
-    same = o.same w.in_s.0 ∙ rw (ends s levels 0 p refl, append-nil);
-    before = w.before;
-    fewer = omega arith;
+    same = rw (w.same_s, w.same_levels) (w.walk.same w.in_s.0);
+    same_s = w.same_s;
+    fewer = w.fewer;
   }
 
-  -- by what `read_entry`, `next_of` and `keep` answer
-  module _ {e : Entry} {x : Next} {q r : ℕ} {starts' stops' : List ℕ} (some : 0 < left) (read : e ≡ entry_at s levels p) (after : x ≡ next_of e) (at : x ≡ At q)
-      (keeps : Keeps starts stops starts' stops' k e r) where
-    leaves : Leaving s starts stops starts' stops' r
-    leaves = keeps_leaving s starts stops k w.in_s (rw read (entry_lies s levels p)) keeps
+  -- by what the iterator gives and `keep` answers
+  module _ (e : Entry) (y : Entries) {r : ℕ} {starts' stops' : List ℕ} (g : Given b.rest (Some e) y) (keeps : Keeps starts stops starts' stops' b.count e r) where
+    read : Some e ≡ entry_at all.s.now all.levels b.rest.at
+    read = rw (w.same_s, w.same_levels) at g.0.1
+
+    leaves : Leaving all.s.now starts stops starts' stops' r
+    leaves = keeps_leaving all.s.now starts stops b.count w.in_s (read_lies all.s.now all.levels b.rest.at e read) keeps
 
     -- the row is full
-    pub taken-some : length starts' < r → Blocked s levels n starts₀ starts' stops' (record { count = k; left = left; next = p })
-    taken-some h =
-        let f = leaves.full (omega (arith, leaves.long)) in
-        rw (f.0, f.1) (record { long = w.walk.long; in_s = w.in_s; same = w.walk.same w.in_s.0; before = w.before; fewer = w.fewer })
+    pub taken-full : length starts' < r → Blocked all starts₀ starts' stops' b
+    taken-full h = let f = leaves.full (omega (arith, leaves.long)) in rw (f.0, f.1) taken
 
     -- the row has room
-    pub taken-one : r ≤ length starts' → Taking s levels n starts₀ stops₀ starts' stops' q (left - 1) r
+    pub taken-one : r ≤ length starts' → Taking all starts₀ stops₀ starts' stops' (record { count = r; rest = y })
     taken-one h = record {
-      walk = (turn w.walk some read after at keeps).on;
+      walk = rw (g.0.2, g.0.3) (turn w.walk g.0.0 read keeps).on;
       in_s = leaves.room (omega (arith, leaves.long));
-      before = next-within s levels p read after at;
-      fewer = omega (arith, w.fewer);
+      fewer = omega (arith, w.fewer, g.0.2);
+      same_s = g.1 ∙ w.same_s;
+      same_levels = g.2 ∙ w.same_levels;
     }
 
 -- What stands behind a prefix: the entries of p ++ t from m + q on, where p has m bytes, have the keys of those of t from q on.
@@ -212,30 +242,18 @@ module _ (s : List ℕ) (m : ℕ) {t : List ℕ} (h : m ≤ length s) (rest : t 
   unfolding part
   rest-drop = rest ∙ take_all (length s - m) (drop m s) (simp length-drop (omega arith))
 
-  rest-long : m + length t ≡ length s
-  rest-long = rw rest-drop (simp length-drop (omega arith))
-
-  in_rest : (levels n q : ℕ) → contents s (entries s levels n (m + q)) ≡ contents t (entries t levels n q)
-  in_rest = rw rest-drop (behind (take m s) (drop m s) (take-append-drop m s) (length-take-le m s h))
-
-  -- a key stands twice from m on if one of the block does, in it or again after it, or one twice after it
-  by_block : {levels left : ℕ} {starts starts' stops' : List ℕ} {b : Block} → Blocked t levels left starts starts' stops' b → twice (contents s (entries s levels left m))
-      ≡ (block_double (kept t starts' stops' b.count) (contents t (entries t levels b.left b.next)) || twice (contents s (entries s levels b.left (m + b.next))))
-  by_block {levels} {left} {starts'} {stops'} {b} taken =
+  in_rest : (levels n : ℕ) → contents s (entries s levels n m) ≡ contents t (entries t levels n 0)
+  in_rest levels n =
       let z : m + 0 ≡ m = omega arith in
-      ap twice (rw z at (in_rest levels left 0) ∙ taken.same)
-      ∙ twice_append (kept t starts' stops' b.count) (contents t (entries t levels b.left b.next)) ∙ rw (in_rest levels b.left b.next)
+      ap (λ (q : ℕ). contents s (entries s levels n q)) (sym z) ∙ rw rest-drop (behind (take m s) (drop m s) (take-append-drop m s) (length-take-le m s h) levels n 0)
 
--- A turn of the search in blocks, by what `read_entry`, `next_of`, `part` and `take_block` answer.
-module _ (s : List ℕ) (p : ℕ) {levels left q : ℕ} {e : Entry} {x : Next} {t starts starts' stops' : List ℕ} {b : Block} (some : 0 < left) (read : e ≡ entry_at s levels p)
-    (after : x ≡ next_of e) (at : x ≡ At q) (rest : t ≡ part s q (length s)) (taken : Blocked t levels (left - 1) starts starts' stops' b) where
-  pub block_ahead : q + b.next ≤ length s
-  block_ahead = omega (arith, rest-long s q (next-within s levels p read after at) rest, taken.before)
+pub from-here : (x y : Entries) → x.at ≤ length x.s.now → FromHere x y → keys_to_come x ≡ keys_to_come y
+from-here x y h f = rw (f.1, f.2, f.3) (in_rest x.s.now x.at h f.0 x.levels x.left)
 
-  -- and by what `stands_again` and `block_double` answer
-  pub block_turn : {again? double : Bool} → again? ≡ again s e (entries s levels (left - 1) q) → again? ≡ false
-      → double ≡ block_double (kept t starts' stops' b.count) (contents t (entries t levels b.left b.next))
-      → twice (contents s (entries s levels left p)) ≡ (double || twice (contents s (entries s levels b.left (q + b.next))))
-  block_turn h k d =
-      rw (goes s levels left p e x some read after q at, twice-more, ← h, k, d)
-      (by_block s q (next-within s levels p read after at) rest taken)
+-- A turn of the search in blocks, by what the iterator gives, `from_here`, `take_block`, `stands_again` and `block_double` answer.
+pub block_turn : (x y z : Entries) (e : Entry) (starts starts' stops' : List ℕ) (b : Block) → Given x (Some e) y → FromHere y z → Blocked z starts starts' stops' b
+    → (again? double : Bool) → again? ≡ again y.s.now e (to_come y) → again? ≡ false
+    → double ≡ block_double (kept b.rest.s.now starts' stops' b.count) (keys_to_come b.rest)
+    → twice (keys_to_come x) ≡ (double || twice (keys_to_come b.rest))
+block_turn x y z e starts starts' stops' b g f taken again? double h k d =
+    twice-first x y e g ∙ rw (← h, k, from-here y z (within x y e g) f, taken.same, ← taken.same_s, twice_append (kept b.rest.s.now starts' stops' b.count) (keys_to_come b.rest), ← d)

@@ -1,5 +1,6 @@
 -- A row of places with one more key, and what `keep` leaves.
 -- Assumes nothing.
+use Rattle.std.specs.Prelude.{Option, None, Some}
 use mathlib.Core.Path.{◌≡◌, refl, sym, ap, ◌∙◌}
 use mathlib.Core.Bool.{Bool, true, false, cond, ◌&&◌}
 use mathlib.Core.List.{List, [], ◌∷◌, ◌++◌, append-nil, append_assoc}
@@ -11,16 +12,16 @@ use lib.ListN.{length, take, set, get_or, length-set}
 use lib.Dec.{ltb, leb}
 use lib.Seq.{take-suc-set, length-take-le}
 use borrow.Author.Tests.{leb-true, ltb-true, ltb-false}
-use Rattle.cbor.specs.declared.Next.{Next}
-use Rattle.cbor.specs.declared.Next.TheVariants.{At, Bad}
 use Rattle.cbor.specs.Cbor.{repeat, pair, value}
-use Rattle.cbor.proofs.Repeat.{Left}
-use Rattle.cbor.proofs.Repeat as repeats
+use Rattle.cbor.proofs.Turns.{Left}
+use Rattle.cbor.proofs.Turns as repeats
 use Rattle.keys.specs.Keys.{part, keys_at, twice}
 use Rattle.entries.specs.declared.Entry.{Entry}
-use Rattle.entries.specs.declared.Entry.TheVariants.{Keyed, Other, Broken}
+use Rattle.entries.specs.declared.Entry.TheVariants.{Keyed, Other}
 use Rattle.entries.specs.Entries.{next_of, entry_at, entries, contents}
 use Rattle.double_keys.specs.Row.{kept, within, sound, row_double, room_for, kept_count, kept_starts, kept_stops, Keeps, RowAnswers}
+use Rattle.double_keys.specs.declared.rows.Row.{Row}
+use Rattle.double_keys.specs.Rows.{keys_in, IsRow}
 use Rattle.double_keys.specs.Search.{Places}
 use Rattle.entries.proofs.Folds.{not-keyed}
 use Rattle.entries.proofs.Bools.{and_left, and_right}
@@ -102,7 +103,6 @@ module _ (starts stops : List ℕ) (k : ℕ) where
   unfolding kept_count kept_starts kept_stops contents
   more_of (Keyed a b q) = by-room a b q (room_for starts stops k a b) refl
   more_of (Other q) = more-none (Other q) (λ s. refl)
-  more_of Broken = more-none Broken (λ s. refl)
 
   keeps-more : (starts' stops' : List ℕ) (e : Entry) (r : ℕ) → Keeps starts stops starts' stops' k e r → More starts stops starts' stops' k e r
   keeps-more starts' stops' e r h = rw (h.count, h.starts_after, h.stops_after) (more_of e)
@@ -123,7 +123,7 @@ module _ (s : List ℕ) (levels n at : ℕ) where
     pub on : Walking starts₀ stops₀ starts stops q (left - 1) r
 
   -- the end: no entry is to come, and the keys are those kept
-  pub record Over (starts stops : List ℕ) (p left k : ℕ) (end : Next) : Type 0 where
+  pub record Over (starts stops : List ℕ) (p left k : ℕ) (end : Option ℕ) : Type 0 where
     pub none : entries s levels left p ≡ []
     pub place : end ≡ repeat n (pair s (value s levels)) at
     pub within : k ≤ length starts → k ≤ length stops
@@ -134,30 +134,27 @@ module _ (s : List ℕ) (levels n at : ℕ) where
   begun starts stops = record { to_come = refl; within = λ h. omega arith; same = λ h. refl; long = refl; long' = refl }
 
 module _ {s : List ℕ} {levels n at : ℕ} {starts₀ stops₀ starts stops : List ℕ} {p left k : ℕ} (w : Walking s levels n at starts₀ stops₀ starts stops p left k) where
-  over : (end : Next) → entries s levels left p ≡ [] → end ≡ repeat n (pair s (value s levels)) at → Over s levels n at starts stops p left k end
+  over : (end : Option ℕ) → entries s levels left p ≡ [] → end ≡ repeat n (pair s (value s levels)) at → Over s levels n at starts stops p left k end
   unfolding contents
   over end e h = record { none = e; place = h; within = w.within; same = λ l. w.same l ∙ rw (e, append-nil) }
 
-  pub finished : left ≡ 0 → Over s levels n at starts stops p left k (At p)
-  finished h = over (At p) (ends s levels left p h) (repeats.ends _ n at left p w.to_come h)
+  pub finished : left ≡ 0 → Over s levels n at starts stops p left k (Some p)
+  finished h = over (Some p) (ends s levels left p h) (repeats.ends _ n at left p w.to_come h)
 
-  -- by what `read_entry`, `next_of` and `keep` answer
-  module _ {e : Entry} {x : Next} (some : 0 < left) (read : e ≡ entry_at s levels p) (after : x ≡ next_of e) where
-    pair-after : pair s (value s levels) p ≡ x
-    pair-after = entry-pair s levels p ∙ rw (← read) (sym after)
+  -- by what `read_entry` and `keep` answer
+  pub broken : 0 < left → None ≡ entry_at s levels p → Over s levels n at starts stops p left k None
+  broken some read = over None (breaks s levels left p some read) (repeats.stops _ n at left p w.to_come some (entry-pair s levels p ∙ rw (← read)))
 
-    pub broken : x ≡ Bad → Over s levels n at starts stops p left k Bad
-    broken h = over Bad (breaks s levels left p e x some read after h) (repeats.stops _ n at left p w.to_come some (pair-after ∙ h))
-
-    pub turn : {q r : ℕ} {starts' stops' : List ℕ} → x ≡ At q → Keeps starts stops starts' stops' k e r → Turn s levels n at starts₀ stops₀ starts' stops' p left e q r
-    turn {q} {r} {starts'} {stops'} h g =
-        let f = goes s levels left p e x some read after q h in
+  module _ {e : Entry} (some : 0 < left) (read : Some e ≡ entry_at s levels p) where
+    pub turn : {r : ℕ} {starts' stops' : List ℕ} → Keeps starts stops starts' stops' k e r → Turn s levels n at starts₀ stops₀ starts' stops' p left e (next_of e) r
+    turn {r} {starts'} {stops'} g =
+        let f = goes s levels left p e some read in
         let m = keeps-more starts stops k starts' stops' e r g in
         let b : r ≤ length starts' → r ≤ length starts = λ l. omega (arith, m.long) in
         record {
           first = f;
           on = record {
-            to_come = repeats.goes _ n at left p w.to_come q some (pair-after ∙ h);
+            to_come = repeats.goes _ n at left p w.to_come (next_of e) some (entry-pair s levels p ∙ rw (← read));
             within = λ l. omega (arith, m.within (b l) (w.within (m.before (b l))), m.long');
             same = λ l.
                 w.same (m.before (b l)) ∙ rw (f, contents-more s e _, ← append_assoc (kept s starts stops k) (contents s (e ∷ [])) (contents s _), ← m.more (b l) s);
@@ -198,6 +195,9 @@ module _ (s starts stops : List ℕ) (k : ℕ) (h : sound s starts stops k ≡ t
   pub sound-places : Places s starts stops k
   unfolding sound
   sound-places = (sound_starts, leb-true k (length stops) (and_right (leb k (length starts)) _ two), within-each starts stops k (length s) (and_right (leb k (length starts) && leb k (length stops) && leb k 1024) _ h))
+
+pub row-keys : {s starts stops : List ℕ} {k : ℕ} (r : Row) → IsRow s starts stops k (Some r) → keys_in r ≡ kept s starts stops k
+row-keys r h = rw (h.1, h.2, h.3, h.4)
 
 -- a row that has the keys of the entries answers for them
 by-sound : (t : Bool) {a b : Bool} → (t ≡ true → a ≡ b) → cond t a b ≡ b

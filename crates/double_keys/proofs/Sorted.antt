@@ -8,7 +8,7 @@ use native.Mathlib.Omega.{arith}
 use lib.ListN.{length, get_or}
 use lib.Dec.{ltb}
 use borrow.Author.Tests.{ltb-true, ltb-false}
-use Rattle.keys.specs.declared.Order.TheVariants.{Before}
+use Rattle.std.specs.declared.cmp.Ordering.TheVariants.{Less}
 use Rattle.keys.specs.Keys.{equal, twice}
 use Rattle.keys.specs.Order.{compare}
 use Rattle.keys.proofs.Equal.{equal-refl, equal-sym}
@@ -103,7 +103,7 @@ module _ (s starts stops : List ℕ) (n : ℕ) where
       below t u (here q e) h w = rw (e, own) (rising i u (omega arith) w)
       below t u (back y q l z e) h w = rw e (k.under y u z (omega arith) w)
 
-      fall : (t u : ℕ) → t < u → Spots t → Spots u → compare (key_of_list row' u) (key_of_list row' t) ≡ Before
+      fall : (t u : ℕ) → t < u → Spots t → Spots u → compare (key_of_list row' u) (key_of_list row' t) ≡ Less
       fall t u h (front l e) (front w f) = rw (e, f) (k.falls t u h (omega (arith, at_low)))
       fall t u h (front l e) (here q f) = rw (e, f, new) (is-before _ _ (b.greater t l))
       fall t u h (front l e) (back y q w x f) = rw (e, f) (k.falls t y (omega arith) x)

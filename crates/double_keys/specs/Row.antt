@@ -1,10 +1,8 @@
 -- A row of places: where keys' contents start and stop. `keep` puts one more key there.
 -- These are definitions: they assume nothing.
-use Rattle.std.specs.Prelude.{ℕ, zero, suc, ◌+◌, ◌≤◌, ◌≡◌, List, Bool, true, false, cond, ◌&&◌, ltb, leb, length, take, set, get_or}
+use Rattle.std.specs.Prelude.{ℕ, Option, None, Some, zero, suc, ◌+◌, ◌≤◌, ◌≡◌, List, Bool, true, false, cond, ◌&&◌, ltb, leb, length, take, set, get_or}
 use Rattle.keys.specs.Keys.{keys_at, twice}
 use Rattle.entries.specs.declared.Entry.{Entry}
-use Rattle.double_keys.specs.declared.Kept.{Kept}
-use Rattle.double_keys.specs.declared.Kept.TheVariants.{Strings, Mixed}
 use Rattle.entries.specs.Entries.{all, if_keyed, is_keyed, contents}
 
 -- the first k keys of a row
@@ -51,9 +49,10 @@ pub record Holds (s : List ℕ) (es : List Entry) (starts stops : List ℕ) (k :
   pub within : k ≤ length starts → k ≤ length stops
   pub same : k ≤ length starts → contents s es ≡ kept s starts stops k
 
-abbrev pub KeptAll : List ℕ → List Entry → List ℕ → List ℕ → Kept → Type 0
-KeptAll s es starts stops (Strings k) = Holds s es starts stops k
-KeptAll s es starts stops Mixed = all is_keyed es ≡ false
+-- a row for all of them, or none where a key is no byte string
+abbrev pub KeptAll : List ℕ → List Entry → List ℕ → List ℕ → Option ℕ → Type 0
+KeptAll s es starts stops (Some k) = Holds s es starts stops k
+KeptAll s es starts stops None = all is_keyed es ≡ false
 
 -- a row that has the keys of the entries, where k is not past its end, answers for them: so the search in the row and the search in the
 -- entries give one answer

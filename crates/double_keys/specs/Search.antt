@@ -1,6 +1,6 @@
 -- How the search in a row of places goes: what the functions of rows.rt answer. No public promise cites these.
 use Rattle.std.specs.Prelude.{ℕ, suc, ◌+◌, ◌*◌, ◌%◌, ◌≤◌, ◌<◌, ◌≡◌, ◌⊎◌, List, [], ◌∷◌, Bool, true, false, length, get_or}
-use Rattle.keys.specs.declared.Order.TheVariants.{Before}
+use Rattle.std.specs.declared.cmp.Ordering.TheVariants.{Less}
 use Rattle.keys.specs.Keys.{part, equal, twice}
 use Rattle.keys.specs.Order.{compare}
 use Rattle.double_keys.specs.Row.{kept}
@@ -62,7 +62,7 @@ module _ (s starts stops : List ℕ) where
   -- the keys whose indexes are the first m of a row: none is equal to another, and row' has them in order, the greatest first
   pub record Ordered (row row' : List ℕ) (m : ℕ) : Type 0 where
     pub apart : (t u : ℕ) → t < u → u < m → equal (key_of (get_or row t 0)) (key_of (get_or row u 0)) ≡ false
-    pub falls : (t u : ℕ) → t < u → u < m → compare (key_of (get_or row' u 0)) (key_of (get_or row' t 0)) ≡ Before
+    pub falls : (t u : ℕ) → t < u → u < m → compare (key_of (get_or row' u 0)) (key_of (get_or row' t 0)) ≡ Less
     pub all : (x : List ℕ) → ((t : ℕ) → t < m → equal x (key_of (get_or row' t 0)) ≡ false) → (t : ℕ) → t < m → equal x (key_of (get_or row t 0)) ≡ false
 
   -- what the search among m of n keys answers, r, and leaves

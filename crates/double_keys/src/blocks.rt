@@ -3,189 +3,130 @@
 ghost use Rattle.std.specs.Prelude.{◌≡◌, ◌≤◌, length};
 ghost use Rattle.keys.specs.Keys.{among, twice};
 ghost use Rattle.entries.specs.Entries.{entries, contents, again};
+ghost use Rattle.double_keys.specs.Entries.{to_come, keys_to_come};
+ghost use Rattle.double_keys.specs.Rows.{keys_in};
 ghost use Rattle.double_keys.specs.Row.{kept};
 ghost use Rattle.double_keys.specs.Search.{Places};
 ghost use Rattle.double_keys.specs.Blocks.{Blocked, InOrder, entry_among, meet, block_double};
 
 use crate::keep;
-use cbor::Next;
+use crate::rows::{Row, list_all};
+use crate::walk::Entries;
 use entries::Entry;
-use keys::Order;
+use std::cmp::Ordering;
 
-// What is known once a block is taken: how many keys it has, how many entries follow it, and where.
+// A block taken: how many keys it has, and the entries that follow it.
 #[derive(Clone, Copy)]
-struct Block {
+struct Block<'a> {
     count: usize,
-    left: u64,
-    next: usize,
+    rest: Entries<'a>,
 }
 
-// Whether an entry's key stands again in the n entries from a position on.
-fn stands_again(s: &[u8], levels: usize, e: Entry, n: u64, at: usize) -> bool
-    ensures { result ≡ again s.now e (entries s.now levels n at) }
+// Whether an entry's key stands again in the entries to come.
+fn stands_again(e: Entry, rest: Entries) -> bool
+    ensures { result ≡ again rest.entry.s.now e (to_come rest.entry) }
 {
-    let Entry::Keyed {
-        start,
-        stop,
-        next: _,
-    } = e
-    else {
+    let Entry::Keyed { start, stop, .. } = e else {
         return false;
     };
-    entries::is_keyed(entries::find_key(s, levels, keys::part(s, start, stop), n, at))
+    let key = keys::part(rest.s, start, stop);
+    entries::find_key(rest.s, rest.levels, key, rest.left, rest.at).is_some()
 }
 
-// Puts the places of the keys of n entries, from the start of s on, into a row while it has room for them.
-fn take_block(s: &[u8], levels: usize, n: u64, starts: &mut [u16], stops: &mut [u16]) -> Block
-    ensures { Blocked s.now levels n starts.old starts.new stops.new result }
+// Puts the places of the entries' keys into a row while it has room for them.
+fn take_block<'a>(all: Entries<'a>, starts: &mut [u16], stops: &mut [u16]) -> Block<'a>
+    ensures { Blocked all.entry starts.old starts.new stops.new result }
 {
-    let mut p: usize = 0;
-    let mut left = n;
-    let mut k: usize = 0;
-    while 0 < left {
-        let e = entries::read_entry(s, levels, p);
-        let Next::At(next) = entries::next_of(e) else {
-            return Block {
-                count: k,
-                left: 0,
-                next: p,
-            };
-        };
-        let more = keep(starts, stops, k, e);
-        if starts.len() < more {
-            return Block {
-                count: k,
-                left,
-                next: p,
-            };
+    let mut b = Block {
+        count: 0,
+        rest: all,
+    };
+    let mut rest = all;
+    while let Some(e) = rest.next() {
+        let count = keep(starts, stops, b.count, e);
+        if starts.len() < count {
+            break;
         }
-        k = more;
-        p = next;
-        left -= 1;
+        b = Block { count, rest };
     }
-    Block {
-        count: k,
-        left: 0,
-        next: p,
-    }
+    b
 }
 
-// Whether a key stands among n keys that stand in order in a row: it is looked for by halves.
-fn stands(s: &[u8], starts: &[u16], stops: &[u16], n: usize, row: &[u16], key: &[u8]) -> bool
-    requires { InOrder s.now starts.now stops.now n row.now }
-    ensures { result ≡ among (kept s.now starts.now stops.now n) key.now }
+// Whether a key stands among those of a row, which stand in order: it is looked for by halves.
+// Stays a loop: `binary_search_by` asks its closure for an answer at every number, also at one that is no key's index.
+fn stands(row: Row, order: &[u16], key: &[u8]) -> bool
+    requires { InOrder row.s.now row.starts.now row.stops.now row.n order.now }
+    ensures { result ≡ among (keys_in row.entry) key.now }
 {
     let mut low: usize = 0;
-    let mut high = n;
+    let mut high = row.n;
     while low < high {
         let mid = (low + high) / 2;
-        let o = keys::compare(
-            key,
-            crate::rows::key_at(s, starts, stops, n, row[mid] as usize),
-        );
-        if let Order::Same = o {
-            return true;
-        }
-        if let Order::Before = o {
-            low = mid + 1;
-        } else {
-            high = mid;
+        match keys::compare(key, row.key_at(order[mid] as usize)) {
+            Ordering::Equal => return true,
+            Ordering::Less => low = mid + 1,
+            Ordering::Greater => high = mid,
         }
     }
     false
 }
 
 // Whether an entry's key stands among those of a row.
-fn entry_stands(s: &[u8], starts: &[u16], stops: &[u16], n: usize, row: &[u16], e: Entry) -> bool
-    requires { InOrder s.now starts.now stops.now n row.now }
-    ensures { result ≡ entry_among s.now (kept s.now starts.now stops.now n) e }
+fn entry_stands(row: Row, order: &[u16], e: Entry) -> bool
+    requires { InOrder row.s.now row.starts.now row.stops.now row.n order.now }
+    ensures { result ≡ entry_among row.entry.s.now (keys_in row.entry) e }
 {
-    let Entry::Keyed {
-        start,
-        stop,
-        next: _,
-    } = e
-    else {
-        return false;
-    };
-    stands(s, starts, stops, n, row, keys::part(s, start, stop))
+    match e {
+        Entry::Keyed { start, stop, .. } => stands(row, order, keys::part(row.s, start, stop)),
+        Entry::Other(_) => false,
+    }
 }
 
-// Whether a key of the `left` entries from a position on stands among those of a row.
-fn one_stands(
-    s: &[u8],
-    levels: usize,
-    left: u64,
-    at: usize,
-    starts: &[u16],
-    stops: &[u16],
-    n: usize,
-    row: &[u16],
-) -> bool
-    requires { InOrder s.now starts.now stops.now n row.now }
-    ensures { result ≡ meet (kept s.now starts.now stops.now n) (contents s.now (entries s.now levels left at)) }
+// Whether a key of the entries to come, which lie in what the row lies in, stands among those of the row.
+fn one_stands(row: Row, order: &[u16], rest: Entries) -> bool
+    requires in_order { InOrder row.s.now row.starts.now row.stops.now row.n order.now }
+    requires same { rest.s.now ≡ row.s.now }
+    ensures { result ≡ meet (keys_in row.entry) (keys_to_come rest.entry) }
 {
-    let mut p = at;
-    let mut rest = left;
-    while 0 < rest {
-        let e = entries::read_entry(s, levels, p);
-        let Next::At(next) = entries::next_of(e) else {
-            return false;
-        };
-        if entry_stands(s, starts, stops, n, row, e) {
+    for e in rest {
+        if entry_stands(row, order, e) {
             return true;
         }
-        p = next;
-        rest -= 1;
     }
     false
 }
 
 // Whether a key of a block stands twice in it, or again after it.
-fn block_double(s: &[u8], levels: usize, b: Block, starts: &[u16], stops: &[u16]) -> bool
-    requires { Places s.now starts.now stops.now b.count × (b.count ≤ 1024) }
-    ensures { result ≡ block_double (kept s.now starts.now stops.now b.count) (contents s.now (entries s.now levels b.left b.next)) }
+fn block_double(b: Block, starts: &[u16], stops: &[u16]) -> bool
+    requires { Places b.rest.s.now starts.now stops.now b.count × (b.count ≤ 1024) }
+    ensures { result ≡ block_double (kept b.entry.rest.s.now starts.now stops.now b.entry.count) (keys_to_come b.entry.rest) }
 {
-    let n = b.count;
-    let mut row = [0u16; 1024];
-    crate::rows::list_all(n, &mut row);
-    if crate::rows::search(s, starts, stops, n, &mut row, n) {
-        return true;
-    }
-    one_stands(s, levels, b.left, b.next, starts, stops, n, &row)
+    let row = Row {
+        s: b.rest.s,
+        starts,
+        stops,
+        n: b.count,
+    };
+    let mut order = [0u16; 1024];
+    list_all(row.n, &mut order);
+    row.search(&mut order, row.n) || one_stands(row, &order, b.rest)
 }
 
-// Whether a key stands twice in n entries. Each turn compares one key with all that follow it, and then a block with what follows that.
-pub(crate) fn double_far(
-    s: &[u8],
-    levels: usize,
-    n: u64,
-    at: usize,
-    starts: &mut [u16],
-    stops: &mut [u16],
-) -> bool
+// Whether a key stands twice in the entries. Each turn compares one key with all that follow it, and then a block with what follows that.
+pub(crate) fn double_far(all: Entries, starts: &mut [u16], stops: &mut [u16]) -> bool
     requires { length starts.old ≤ 1024 }
-    ensures { result ≡ twice (contents s.now (entries s.now levels n at)) }
+    ensures { result ≡ twice (keys_to_come all.entry) }
 {
-    let mut p = at;
-    let mut left = n;
-    while 0 < left {
-        let e = entries::read_entry(s, levels, p);
-        let Next::At(next) = entries::next_of(e) else {
-            return false;
-        };
-        left -= 1;
-        if stands_again(s, levels, e, left, next) {
+    let mut rest = all;
+    while let Some(e) = rest.next() {
+        if stands_again(e, rest) {
             return true;
         }
-        let rest = keys::part(s, next, s.len());
-        let b = take_block(rest, levels, left, starts, stops);
-        let after = next + b.next;
-        left = b.left;
-        if block_double(rest, levels, b, starts, stops) {
+        let b = take_block(rest.from_here(), starts, stops);
+        if block_double(b, starts, stops) {
             return true;
         }
-        p = after;
+        rest = b.rest;
     }
     false
 }

@@ -4,14 +4,18 @@
 
 mod blocks;
 mod rows;
+mod walk;
 
 ghost use Rattle.std.specs.Prelude.{◌≡◌, ◌≤◌, length};
+ghost use Rattle.keys.specs.Keys.{twice};
 ghost use Rattle.entries.specs.Entries.{entries};
 ghost use Rattle.double_keys.specs.DoubleKeys.{keys_of, strings_keys};
 ghost use Rattle.double_keys.specs.Row.{Keeps, KeptAll, row_double};
+ghost use Rattle.double_keys.specs.Entries.{to_come, keys_to_come};
 
-use cbor::Next;
 use entries::Entry;
+use rows::Row;
+use walk::Entries;
 
 // The keys of a map: byte strings, each once; byte strings, one of them twice; not all byte strings.
 #[derive(Clone, Copy)]
@@ -21,24 +25,13 @@ pub enum Keys {
     Others,
 }
 
-// What putting keys' places into a row found: byte strings only, and how many places there are, or another key.
-#[derive(Clone, Copy)]
-enum Kept {
-    Strings(usize),
-    Mixed,
-}
-
 // Puts the place of an entry's key into a row that has k, and answers how many it then has: past the row's end where it has no room, or
 // where the place is past 65,535.
+// Stays two rows and a count, and a number where there is no room: its promise, `Keeps`, speaks of rows of any two lengths and of that number.
 pub fn keep(starts: &mut [u16], stops: &mut [u16], k: usize, e: Entry) -> usize
     ensures { Keeps starts.old stops.old starts.new stops.new k e result }
 {
-    let Entry::Keyed {
-        start,
-        stop,
-        next: _,
-    } = e
-    else {
+    let Entry::Keyed { start, stop, .. } = e else {
         return k;
     };
     let full = starts.len() + 1;
@@ -60,6 +53,7 @@ pub fn keep(starts: &mut [u16], stops: &mut [u16], k: usize, e: Entry) -> usize
 }
 
 // Whether a key stands twice: among the k keys of a row or, where the row is not sound, in the n entries themselves.
+// Stays two rows and a count: its promise, `row_double`, speaks of rows of any two lengths.
 pub fn row_double(
     s: &[u8],
     levels: usize,
@@ -71,84 +65,67 @@ pub fn row_double(
 ) -> bool
     ensures { result ≡ row_double s.now (entries s.now levels n at) starts.now stops.now k }
 {
-    if rows::is_sound(s, starts, stops, k) {
-        return rows::double_key(s, starts, stops, k);
+    if let Some(row) = Row::of(s, starts, stops, k) {
+        return row.double_key();
     }
-    let mut first = [0u16; 8];
-    let mut last = [0u16; 8];
-    blocks::double_far(s, levels, n, at, &mut first, &mut last)
+    let all = Entries {
+        s,
+        levels,
+        left: n,
+        at,
+    };
+    blocks::double_far(all, &mut [0; 8], &mut [0; 8])
 }
 
-// Puts the places of the keys of n entries into a row, while they are byte strings.
-fn keep_keys(
-    s: &[u8],
-    levels: usize,
-    n: u64,
-    at: usize,
-    starts: &mut [u16],
-    stops: &mut [u16],
-) -> Kept
-    ensures { KeptAll s.now (entries s.now levels n at) starts.new stops.new result }
+// Puts the places of the entries' keys into a row, if they are byte strings, and answers how many it then has.
+fn keep_keys(all: Entries, starts: &mut [u16], stops: &mut [u16]) -> Option<usize>
+    ensures { KeptAll all.entry.s.now (to_come all.entry) starts.new stops.new result }
 {
-    let mut p = at;
-    let mut left = n;
     let mut k: usize = 0;
-    while 0 < left {
-        let e = entries::read_entry(s, levels, p);
-        let Next::At(next) = entries::next_of(e) else {
-            return Kept::Strings(k);
-        };
-        if !entries::is_keyed(e) {
-            return Kept::Mixed;
+    for e in all {
+        if !e.is_keyed() {
+            return None;
         }
         k = keep(starts, stops, k, e);
-        p = next;
-        left -= 1;
     }
-    Kept::Strings(k)
+    Some(k)
 }
 
 // The keys of a map that are byte strings, by whether one stands twice.
 fn strings_keys(double: bool) -> Keys
     ensures { result ≡ strings_keys double }
 {
-    if double {
-        return Keys::Double;
-    }
-    Keys::Single
+    if double { Keys::Double } else { Keys::Single }
 }
 
-// The keys of n entries, with a row for their places.
-fn judge_with(
-    s: &[u8],
-    levels: usize,
-    n: u64,
-    at: usize,
-    starts: &mut [u16],
-    stops: &mut [u16],
-) -> Keys
-    requires { length starts.old ≤ 1024 }
-    ensures { result ≡ keys_of s.now (entries s.now levels n at) }
+// The keys of the entries, with a row of N places for them.
+fn judge_with<const N: usize>(all: Entries) -> Keys
+    requires { N ≤ 1024 }
+    ensures { result ≡ keys_of all.entry.s.now (to_come all.entry) }
 {
-    let Kept::Strings(k) = keep_keys(s, levels, n, at, starts, stops) else {
+    let mut starts = [0u16; N];
+    let mut stops = [0u16; N];
+    let Some(k) = keep_keys(all, &mut starts, &mut stops) else {
         return Keys::Others;
     };
-    if rows::is_sound(s, starts, stops, k) {
-        return strings_keys(rows::double_key(s, starts, stops, k));
+    if let Some(row) = Row::of(all.s, &starts, &stops, k) {
+        return strings_keys(row.double_key());
     }
-    strings_keys(blocks::double_far(s, levels, n, at, starts, stops))
+    strings_keys(blocks::double_far(all, &mut starts, &mut stops))
 }
 
 // The keys of n entries.
 pub fn judge_keys(s: &[u8], levels: usize, n: u64, at: usize) -> Keys
     ensures { result ≡ keys_of s.now (entries s.now levels n at) }
 {
+    let all = Entries {
+        s,
+        levels,
+        left: n,
+        at,
+    };
     if n <= 16 {
-        let mut starts = [0u16; 16];
-        let mut stops = [0u16; 16];
-        return judge_with(s, levels, n, at, &mut starts, &mut stops);
+        return judge_with::<16>(all);
     }
-    let mut starts = [0u16; 1024];
-    let mut stops = [0u16; 1024];
-    judge_with(s, levels, n, at, &mut starts, &mut stops)
+    judge_with::<1024>(all)
 }

@@ -4,40 +4,33 @@ ghost use Rattle.keys.specs.Keys.{twice};
 ghost use Rattle.double_keys.specs.Row.{kept, within, sound};
 ghost use Rattle.double_keys.specs.Search.{hash, key_of, Places, Marked, Inserted, Indexes, Counts, Lists, Searched};
 
-use keys::Order;
+use std::cmp::Ordering;
+
+// A row of n places in s, no more than the search has room for. Each starts before it stops.
+#[derive(Clone, Copy)]
+pub(crate) struct Row<'a> {
+    pub(crate) s: &'a [u8],
+    pub(crate) starts: &'a [u16],
+    pub(crate) stops: &'a [u16],
+    pub(crate) n: usize,
+    ghost in_s: { Places s.now starts.now stops.now n },
+    ghost few: { n ≤ 1024 },
+}
 
 // Whether each of n places starts before it stops, within `size` bytes.
 fn all_within(starts: &[u16], stops: &[u16], n: usize, size: usize) -> bool
     requires { (n ≤ length starts.now) × (n ≤ length stops.now) }
     ensures { result ≡ within starts.now stops.now n size }
 {
-    let mut i: usize = 0;
-    while i < n {
+    for i in 0..n {
         if stops[i] < starts[i] {
             return false;
         }
         if size < (stops[i] as usize) {
             return false;
         }
-        i += 1;
     }
     true
-}
-
-// Whether a row has k places in s, and no more than the search has room for.
-pub(crate) fn is_sound(s: &[u8], starts: &[u16], stops: &[u16], k: usize) -> bool
-    ensures { result ≡ sound s.now starts.now stops.now k }
-{
-    if starts.len() < k {
-        return false;
-    }
-    if stops.len() < k {
-        return false;
-    }
-    if 1024 < k {
-        return false;
-    }
-    all_within(starts, stops, k, s.len())
 }
 
 // A number made of a key's content: equal keys have equal numbers. The multiplier is the prime of the FNV hash.
@@ -45,44 +38,10 @@ fn key_hash(key: &[u8]) -> usize
     ensures { result ≡ hash key.now }
 {
     let mut h: usize = 0;
-    let mut i: usize = 0;
-    while i < key.len() {
-        h = (h * 16777619 + (key[i] as usize)) % 4294967296;
-        i += 1;
+    for b in key {
+        h = (h * 16777619 + (*b as usize)) % 4294967296;
     }
     h
-}
-
-// The key at index i of n places.
-pub(crate) fn key_at<'a, 'b, 'c>(
-    s: &'a [u8],
-    starts: &'b [u16],
-    stops: &'c [u16],
-    n: usize,
-    i: usize,
-) -> &'a [u8]
-    requires { Places s.now starts.now stops.now n × (i < n) }
-    ensures { result.now ≡ key_of s.now starts.now stops.now i }
-{
-    let start = starts[i] as usize;
-    let stop = stops[i] as usize;
-    &s[start..stop]
-}
-
-// Puts a mark of each of n keys into a row, and counts the keys of each mark, up to two.
-fn mark_keys(s: &[u8], starts: &[u16], stops: &[u16], n: usize, counts: &mut [u8], row: &mut [u16])
-    requires { Places s.now starts.now stops.now n × (n ≤ length row.old) × (0 < length counts.old) × (length counts.old ≤ 65536) }
-    ensures { Marked s.now starts.now stops.now n counts.new row.new }
-{
-    let mut i: usize = 0;
-    while i < n {
-        let mark = key_hash(key_at(s, starts, stops, n, i)) % counts.len();
-        row[i] = mark as u16;
-        if counts[mark] < 2 {
-            counts[mark] += 1;
-        }
-        i += 1;
-    }
 }
 
 // Puts the indexes of the keys whose mark is counted twice into the row that has the marks of n keys, and answers how many they are.
@@ -90,15 +49,13 @@ fn list_shared(n: usize, counts: &[u8], row: &mut [u16]) -> usize
     requires { (n ≤ length row.old) × (n ≤ 65536) × ((t : ℕ) → t < n → get_or row.old t 0 < length counts.now) }
     ensures { Lists n counts.now row.old row.new result }
 {
-    let mut i: usize = 0;
     let mut m: usize = 0;
-    while i < n {
+    for i in 0..n {
         let mark = row[i] as usize;
         if 1 < counts[mark] {
             row[m] = i as u16;
             m += 1;
         }
-        i += 1;
     }
     m
 }
@@ -108,10 +65,8 @@ pub(crate) fn list_all(n: usize, row: &mut [u16])
     requires { (n ≤ length row.old) × (n ≤ 65536) }
     ensures { Counts n row.old row.new }
 {
-    let mut i: usize = 0;
-    while i < n {
+    for i in 0..n {
         row[i] = i as u16;
-        i += 1;
     }
 }
 
@@ -120,87 +75,117 @@ fn insert(row: &mut [u16], k: usize, at: usize, v: u16)
     requires { (at ≤ k) × (k < length row.old) }
     ensures { Inserted row.old row.new k at v }
 {
-    let mut j = k;
-    while at < j {
-        let i = j - 1;
-        row[j] = row[i];
-        j = i;
+    for j in (at..k).rev() {
+        row[j + 1] = row[j];
     }
     row[at] = v;
 }
 
-// Whether one of the keys whose indexes are the first m of a row is equal to another. They are taken in turn, and those taken stand in
-// order in the row, the greatest first, where the inner loop looks for the next one by halves.
-pub(crate) fn search(
-    s: &[u8],
-    starts: &[u16],
-    stops: &[u16],
-    n: usize,
-    row: &mut [u16],
-    m: usize,
-) -> bool
-    requires { Places s.now starts.now stops.now n × Indexes n row.old m }
-    ensures { Searched s.now starts.now stops.now n row.old row.new m result }
-{
-    let mut found = false;
-    let mut i: usize = 0;
-    'search: while i < m {
-        let v = row[i];
-        let key = key_at(s, starts, stops, n, v as usize);
-        let mut low: usize = 0;
-        let mut high = i;
-        while low < high {
-            let mid = (low + high) / 2;
-            let o = keys::compare(key, key_at(s, starts, stops, n, row[mid] as usize));
-            if let Order::Same = o {
-                found = true;
-                break 'search;
-            }
-            if let Order::Before = o {
-                low = mid + 1;
-            } else {
-                high = mid;
+impl<'a> Row<'a> {
+    ghost use Rattle.double_keys.specs.Rows.{keys_in, IsRow};
+
+    // The row of k places, if they are in s and no more than the search has room for.
+    pub(crate) fn of(s: &'a [u8], starts: &'a [u16], stops: &'a [u16], k: usize) -> Option<Row<'a>>
+        ensures { IsRow s.now starts.now stops.now k result }
+    {
+        if starts.len() < k {
+            return None;
+        }
+        if stops.len() < k {
+            return None;
+        }
+        if 1024 < k {
+            return None;
+        }
+        if !all_within(starts, stops, k, s.len()) {
+            return None;
+        }
+        Some(Row {
+            s,
+            starts,
+            stops,
+            n: k,
+        })
+    }
+
+    // The key at index i.
+    pub(crate) fn key_at(self, i: usize) -> &'a [u8]
+        requires { i < self.n }
+        ensures { result.now ≡ key_of self.entry.s.now self.entry.starts.now self.entry.stops.now i }
+    {
+        let start = self.starts[i] as usize;
+        let stop = self.stops[i] as usize;
+        &self.s[start..stop]
+    }
+
+    // Puts a mark of each key into a row, and counts the keys of each mark, up to two.
+    fn mark_keys(self, counts: &mut [u8], row: &mut [u16])
+        requires { (self.n ≤ length row.old) × (0 < length counts.old) × (length counts.old ≤ 65536) }
+        ensures { Marked self.entry.s.now self.entry.starts.now self.entry.stops.now self.entry.n counts.new row.new }
+    {
+        for i in 0..self.n {
+            let mark = key_hash(self.key_at(i)) % counts.len();
+            row[i] = mark as u16;
+            if counts[mark] < 2 {
+                counts[mark] += 1;
             }
         }
-        insert(row, i, low, v);
-        i += 1;
     }
-    found
-}
 
-// Whether a key stands twice among n keys, with room for the search.
-fn double_with(
-    s: &[u8],
-    starts: &[u16],
-    stops: &[u16],
-    n: usize,
-    counts: &mut [u8],
-    row: &mut [u16],
-) -> bool
-    requires { Places s.now starts.now stops.now n × (n ≤ length row.old) × (n ≤ 65536) × (0 < length counts.old) × (length counts.old ≤ 65536) }
-    ensures { result ≡ twice (kept s.now starts.now stops.now n) }
-{
-    mark_keys(s, starts, stops, n, counts, row);
-    let m = list_shared(n, counts, row);
-    search(s, starts, stops, n, row, m)
-}
+    // Whether one of the keys whose indexes are the first m of a row is equal to another. They are taken in turn, and those taken stand in
+    // order in the row, the greatest first, where the inner loop looks for the next one by halves.
+    // Stays two nested loops, the outer one left by a label: document 01 asks for that form (docs/DECISIONS.md, 80).
+    pub(crate) fn search(self, row: &mut [u16], m: usize) -> bool
+        requires { Indexes self.n row.old m }
+        ensures { Searched self.entry.s.now self.entry.starts.now self.entry.stops.now self.entry.n row.old row.new m result }
+    {
+        let mut found = false;
+        'search: for i in 0..m {
+            let v = row[i];
+            let key = self.key_at(v as usize);
+            let mut low: usize = 0;
+            let mut high = i;
+            while low < high {
+                let mid = (low + high) / 2;
+                match keys::compare(key, self.key_at(row[mid] as usize)) {
+                    Ordering::Equal => {
+                        found = true;
+                        break 'search;
+                    }
+                    Ordering::Less => low = mid + 1,
+                    Ordering::Greater => high = mid,
+                }
+            }
+            insert(row, i, low, v);
+        }
+        found
+    }
 
-// Whether a key stands twice among n keys. Where there are few, most of them are alone with their mark; where there are many, marks would
-// cost more than they spare at worst, and all keys are put in order.
-pub(crate) fn double_key(s: &[u8], starts: &[u16], stops: &[u16], n: usize) -> bool
-    requires { Places s.now starts.now stops.now n × (n ≤ 1024) }
-    ensures { result ≡ twice (kept s.now starts.now stops.now n) }
-{
-    if n <= 16 {
-        let mut counts = [0u8; 64];
-        let mut row = [0u16; 16];
-        return double_with(s, starts, stops, n, &mut counts, &mut row);
+    // Whether a key stands twice, by M marks: the keys that are alone with theirs are passed over. N places are enough for the row.
+    fn double_marked<const M: usize, const N: usize>(self) -> bool
+        requires { (self.n ≤ N) × (N ≤ 65536) × (0 < M) × (M ≤ 65536) }
+        ensures { result ≡ twice (keys_in self.entry) }
+    {
+        let mut counts = [0u8; M];
+        let mut row = [0u16; N];
+        self.mark_keys(&mut counts, &mut row);
+        let m = list_shared(self.n, &counts, &mut row);
+        self.search(&mut row, m)
     }
-    let mut row = [0u16; 1024];
-    if n <= 400 {
-        let mut counts = [0u8; 1536];
-        return double_with(s, starts, stops, n, &mut counts, &mut row);
+
+    // Whether a key stands twice. Where there are few, most of them are alone with their mark; where there are many, marks would cost more
+    // than they spare at worst, and all keys are put in order.
+    pub(crate) fn double_key(self) -> bool
+        ensures { result ≡ twice (keys_in self.entry) }
+    {
+        if self.n <= 16 {
+            return self.double_marked::<64, 16>();
+        }
+        if self.n <= 400 {
+            return self.double_marked::<1536, 400>();
+        }
+        let mut row = [0u16; 1024];
+        list_all(self.n, &mut row);
+        self.search(&mut row, self.n)
     }
-    list_all(n, &mut row);
-    search(s, starts, stops, n, &mut row, n)
 }

@@ -1,25 +1,25 @@
 -- What is known of an entry that a pattern did not match: that its key is no byte string. And of an item whose key is none.
 -- Assumes nothing.
+use Rattle.std.specs.Prelude.{Option, None, Some}
 use mathlib.Core.Path.{◌≡◌, refl}
 use Prim.Native.Nat.{ℕ}
 use Rattle.cbor.specs.declared.Item.{Item}
-use Rattle.cbor.specs.declared.Item.TheVariants.{Unsigned, Negative, Bytes, Simple, Array, Map, Set, Refused}
+use Rattle.cbor.specs.declared.Item.TheVariants.{Unsigned, Negative, Bytes, Simple, Array, Map, Set}
 use Rattle.cbor.specs.Cbor.{Reader, and_then, scalar_of}
 use Rattle.entries.specs.declared.Entry.{Entry}
-use Rattle.entries.specs.declared.Entry.TheVariants.{Keyed, Other, Broken}
+use Rattle.entries.specs.declared.Entry.TheVariants.{Keyed, Other}
 use Rattle.entries.specs.Entries.{if_keyed, other, entry_of}
 
 pub not-keyed : {A : Type 0} (e : Entry) → ((start stop next : ℕ) → e ≡ Keyed start stop next → ⊥) → (f : ℕ → ℕ → ℕ → A) (d : A) → if_keyed e f d ≡ d
 not-keyed (Keyed start stop next) h f d = absurd (h start stop next refl)
 not-keyed (Other next) h f d = refl
-not-keyed Broken h f d = refl
 
-pub other-entry : (r : Reader) (x : Item) → ((start stop : ℕ) → x ≡ Bytes start stop → ⊥) → entry_of r x ≡ other (and_then (scalar_of x) r)
-other-entry r (Unsigned n next) h = refl
-other-entry r (Negative n next) h = refl
-other-entry r (Bytes start next) h = absurd (h start next refl)
-other-entry r (Simple next) h = refl
-other-entry r (Array n at) h = refl
-other-entry r (Map n at) h = refl
-other-entry r (Set n at) h = refl
-other-entry r Refused h = refl
+pub other-entry : (r : Reader) (x : Option Item) → ((start stop : ℕ) → x ≡ Some (Bytes start stop) → ⊥) → entry_of r x ≡ other (and_then (scalar_of x) r)
+other-entry r (Some (Unsigned n next)) h = refl
+other-entry r (Some (Negative n next)) h = refl
+other-entry r (Some (Bytes start next)) h = absurd (h start next refl)
+other-entry r (Some (Simple next)) h = refl
+other-entry r (Some (Array n at)) h = refl
+other-entry r (Some (Map n at)) h = refl
+other-entry r (Some (Set n at)) h = refl
+other-entry r None h = refl

@@ -1,14 +1,12 @@
 -- The entries of a map, in order, and the contents of their keys.
 -- These are definitions: they assume nothing.
-use Rattle.std.specs.Prelude.{ℕ, zero, suc, List, [], ◌∷◌, Bool, true, false, cond, ◌&&◌, ◌||◌}
+use Rattle.std.specs.Prelude.{ℕ, zero, suc, List, [], ◌∷◌, Option, None, Some, Bool, true, false, cond, ◌&&◌, ◌||◌}
 use Rattle.cbor.specs.declared.Item.{Item}
-use Rattle.cbor.specs.declared.Item.TheVariants.{Unsigned, Negative, Bytes, Simple, Array, Map, Set, Refused}
-use Rattle.cbor.specs.declared.Next.{Next}
-use Rattle.cbor.specs.declared.Next.TheVariants.{At, Bad}
+use Rattle.cbor.specs.declared.Item.TheVariants.{Unsigned, Negative, Bytes, Simple, Array, Map, Set}
 use Rattle.cbor.specs.Cbor.{Reader, item_at, value}
 use Rattle.keys.specs.Keys.{part, equal, among}
 use Rattle.entries.specs.declared.Entry.{Entry}
-use Rattle.entries.specs.declared.Entry.TheVariants.{Keyed, Other, Broken}
+use Rattle.entries.specs.declared.Entry.TheVariants.{Keyed, Other}
 
 -- whether each, or one, of a list passes a test
 unfoldable pub all : {A : Type 0} → (A → Bool) → List A → Bool
@@ -23,45 +21,42 @@ any p (x ∷ l) = p x || any p l
 abbrev pub if_keyed : {A : Type 0} → Entry → (ℕ → ℕ → ℕ → A) → A → A
 if_keyed (Keyed start stop next) f d = f start stop next
 if_keyed (Other next) f d = d
-if_keyed Broken f d = d
 
 abbrev pub is_keyed : Entry → Bool
 is_keyed e = if_keyed e (λ start stop next. true) false
 
 -- the position after an entry
-abbrev pub next_of : Entry → Next
-next_of (Keyed start stop next) = At next
-next_of (Other next) = At next
-next_of Broken = Bad
+abbrev pub next_of : Entry → ℕ
+next_of (Keyed start stop next) = next
+next_of (Other next) = next
 
 -- an entry by its key and by where its value ends
-abbrev pub keyed : ℕ → ℕ → Next → Entry
-keyed start stop (At next) = Keyed start stop next
-keyed start stop Bad = Broken
+abbrev pub keyed : ℕ → ℕ → Option ℕ → Option Entry
+keyed start stop None = None
+keyed start stop (Some next) = Some (Keyed start stop next)
 
-abbrev pub other : Next → Entry
-other (At next) = Other next
-other Bad = Broken
+abbrev pub other : Option ℕ → Option Entry
+other None = None
+other (Some next) = Some (Other next)
 
-abbrev pub entry_of : Reader → Item → Entry
-entry_of r (Unsigned n next) = other (r next)
-entry_of r (Negative n next) = other (r next)
-entry_of r (Bytes start stop) = keyed start stop (r stop)
-entry_of r (Simple next) = other (r next)
-entry_of r (Array n at) = Broken
-entry_of r (Map n at) = Broken
-entry_of r (Set n at) = Broken
-entry_of r Refused = Broken
+abbrev pub entry_of : Reader → Option Item → Option Entry
+entry_of r (Some (Unsigned n next)) = other (r next)
+entry_of r (Some (Negative n next)) = other (r next)
+entry_of r (Some (Bytes start stop)) = keyed start stop (r stop)
+entry_of r (Some (Simple next)) = other (r next)
+entry_of r (Some (Array n at)) = None
+entry_of r (Some (Map n at)) = None
+entry_of r (Some (Set n at)) = None
+entry_of r None = None
 
--- the entry, then those that follow it; none after a broken one
-abbrev pub onward : Entry → (ℕ → List Entry) → List Entry
-onward (Keyed start stop next) rest = Keyed start stop next ∷ rest next
-onward (Other next) rest = Other next ∷ rest next
-onward Broken rest = []
+-- the entry, then those that follow it; none where there is no entry
+abbrev pub onward : Option Entry → (ℕ → List Entry) → List Entry
+onward None rest = []
+onward (Some e) rest = e ∷ rest (next_of e)
 
 module _ (s : List ℕ) where
   -- the entry at a position, its value of at most so many levels
-  unfoldable pub entry_at : ℕ → ℕ → Entry
+  unfoldable pub entry_at : ℕ → ℕ → Option Entry
   entry_at levels at = entry_of (value s levels) (item_at s at)
 
   -- n entries from a position on
@@ -82,7 +77,7 @@ module _ (s : List ℕ) where
   abbrev pub has_key : List ℕ → Entry → Bool
   has_key key e = if_keyed e (λ start stop next. equal key (part s start stop)) false
 
-  -- the first entry with this key, or a broken one
-  unfoldable pub find : List ℕ → List Entry → Entry
-  find key [] = Broken
-  find key (e ∷ es) = cond (has_key key e) e (find key es)
+  -- the first entry with this key
+  unfoldable pub find : List ℕ → List Entry → Option Entry
+  find key [] = None
+  find key (e ∷ es) = cond (has_key key e) (Some e) (find key es)

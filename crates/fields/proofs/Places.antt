@@ -1,4 +1,4 @@
--- What stands at a place of a layout: a field behind another, a number of two bytes, a byte.
+-- What stands at a place of a layout: a field behind another, a number of two bytes or three, a byte.
 -- Assumes nothing.
 use Prim.Native.Nat.{ℕ, ◌+◌, ◌*◌, ◌/◌, ◌%◌}
 use mathlib.Core.Bool.{Bool, true, false, ◌&&◌}
@@ -35,7 +35,7 @@ put-behind w p q s t e =
     let k : q ≡ p + length s = omega arith in
     ap (λ (n : ℕ). write (write w p s) n t) k ∙ write-twice w p s t
 
--- ---- a number of two bytes
+-- ---- a number of two bytes, and of three
 
 pub two-get : (b : List ℕ) (at : ℕ) → (number 2).get (drop at b) ≡ get_or b at 0 + 256 * get_or b (at + 1) 0
 two-get b at =
@@ -50,19 +50,10 @@ two-put b at n =
     ∙ set-write (write b at c) (at + 1) (n / 256 % 256)
     ∙ put-behind b at (at + 1) c (n / 256 % 256 ∷ []) (omega arith)
 
--- and of three, the first two as a number by itself
-
-pub three-get : (b : List ℕ) (at : ℕ) → (number 3).get (drop at b) ≡ (number 2).get (drop at b) + 65536 * get_or b (at + 2) 0
-three-get b at =
-    let z : get_or (drop at b) 2 0 ≡ get_or b (at + 2) 0 = get_or-drop at b 2 0 in
-    omega (arith, z)
-
-pub three-put : (b : List ℕ) (at n : ℕ) → set (write b at ((number 2).put n)) (at + 2) (n / 65536 % 256) ≡ write b at ((number 3).put n)
-three-put b at n =
+pub three : (n : ℕ) → n % 256 ∷ n / 256 % 256 ∷ n / 65536 % 256 ∷ [] ≡ (number 3).put n
+three n =
     let e : n / 65536 ≡ n / 256 / 256 = omega arith in
-    set-write (write b at ((number 2).put n)) (at + 2) (n / 65536 % 256)
-    ∙ put-behind b at (at + 2) ((number 2).put n) (n / 65536 % 256 ∷ []) (omega arith)
-    ∙ ap (λ (m : ℕ). write b at (n % 256 ∷ n / 256 % 256 ∷ m % 256 ∷ [])) e
+    ap (λ (m : ℕ). n % 256 ∷ n / 256 % 256 ∷ m % 256 ∷ []) e
 
 -- ---- one byte
 

@@ -3,6 +3,13 @@
 use Rattle.std.specs.Prelude.{ℕ, zero, suc, ◌+◌, ◌*◌, ◌/◌, ◌%◌, Bool, true, cond, ◌&&◌, List, [], ◌∷◌, ◌++◌, length, take, drop, get_or, ltb, eqb}
 use Rattle.std.proofs.Math.Option.{Option, some, none}
 use mir.Val.{bool_byte}
+use Rattle.std.specs.declared.option.Option as answer
+use Rattle.std.specs.declared.option.Option.TheVariants.{None, Some}
+
+-- what the code's Option says
+unfoldable pub read : {A : Type 0} → answer.Option A → Option A
+read None = none
+read (Some x) = some x
 
 -- `get` and `good` look at the first `width` bytes; what is behind them does not matter
 pub record Field (A : Type 0) : Type 0 where
@@ -53,6 +60,11 @@ both f g = record {
   good = λ b. f.good b && g.good (drop f.width b);
 }
 
+unfoldable pub padded : {A : Type 0} → A → ℕ → List A → List A
+padded d zero l = []
+padded d (suc n) [] = d ∷ padded d n []
+padded d (suc n) (x ∷ xs) = x ∷ padded d n xs
+
 module _ {A : Type 0} (f : Field A) where
   unfoldable pub put_all : List A → List ℕ
   put_all [] = []
@@ -71,6 +83,10 @@ module _ {A : Type 0} (f : Field A) where
 
   abbrev pub standing : {B : Type 0} → (B → A) → (A → B) → Field B
   standing to of = record { width = f.width; put = λ x. f.put (to x); get = λ b. of (f.get b); good = f.good }
+
+  -- the first n of the values that stand in bytes one behind another; this value where there are fewer
+  unfoldable pub row_from : A → ℕ → List ℕ → List A
+  row_from d n b = padded d n (get_all (length b / f.width) b)
 
   -- ---- a field alone: which bytes are a value's, and the value of those that are
 

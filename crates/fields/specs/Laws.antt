@@ -19,6 +19,11 @@ pub record Lawful {A : Type 0} (f : Field A) (Fits : A → Type 0) : Type 0 wher
   pub passes : (a : A) (r : List ℕ) → Fits a → f.good (f.put a ++ r) ≡ true
   pub only : (b : List ℕ) → AreBytes b → f.width ≤ length b → f.good b ≡ true → f.put (f.get b) ≡ take f.width b
 
+-- the same of any bytes, of which there are enough
+pub record Local {A : Type 0} (f : Field A) : Type 0 where
+  pub get : (b r : List ℕ) → f.width ≤ length b → f.get (b ++ r) ≡ f.get b
+  pub good : (b r : List ℕ) → f.width ≤ length b → f.good (b ++ r) ≡ f.good b
+
 -- ---- a field alone; each claim holds of every lawful field, under its name in proofs/FieldLaws.antt
 
 -- every value that fits comes back

@@ -1,51 +1,72 @@
--- Lines of a table, byte by byte. Assumes nothing.
-use Prim.Native.Nat.{ℕ, zero, suc, ◌+◌, ◌-◌, ◌≤◌, ◌<◌}
-use native.Mathlib.Numerals.{add-one}
-use native.Mathlib.Omega.{arith}
-use mathlib.Core.Path.{◌≡◌, refl, sym}
-use mathlib.Core.List.{List, [], ◌∷◌}
-use borrow.Author.Tests.{eq-eqb, ne_eqb}
-use lib.ListN.{length, get_or, drop, drop_of_length-le}
-use lib.Seq.{drop-cons}
+-- Lines of a table: what stands before the first line end, and behind it. Assumes nothing.
+use Rattle.std.proofs.Common.{◌≡◌, ℕ, zero, suc, ◌+◌, ◌-◌, ◌<◌, ◌≤◌, Bool, true, false, cond, eqb, Some, None, List, [], ◌∷◌, length, take, drop, refl, ap, sym, ◌∙◌, arith, ltb-false, take_all, drop_of_length-le, length-drop}
+use Rattle.std.specs.List.{position, position_or_len}
 use Rattle.files.specs.Words.{line_of, behind_line, behind_lines}
 
-none-behind : (n : ℕ) → behind_lines n [] ≡ []
+abbrev ends : ℕ → Bool
+ends b = eqb b 10
+
+skips : (s : List ℕ) (b : ℕ) → eqb b 10 ≡ false → position_or_len ends (b ∷ s) ≡ suc (position_or_len ends s)
+skips s b e = rw e (omega arith)
+
+before-end : (s : List ℕ) → take (position_or_len ends s) s ≡ line_of s
+unfolding line_of
+before-end [] = refl
+before-end (b ∷ s) = case (eqb b 10) refl (before-end s)
+  where
+    case : (t : Bool) → eqb b 10 ≡ t → take (position_or_len ends s) s ≡ line_of s → take (position_or_len ends (b ∷ s)) (b ∷ s) ≡ line_of (b ∷ s)
+    case true e h = rw e refl
+    case false e h = rw (skips s b e, e) (ap (λ x. b ∷ x) h)
+
+behind-end : (s : List ℕ) → drop (suc (position_or_len ends s)) s ≡ behind_line s
+unfolding behind_line
+behind-end [] = refl
+behind-end (b ∷ s) = case (eqb b 10) refl (behind-end s)
+  where
+    case : (t : Bool) → eqb b 10 ≡ t → drop (suc (position_or_len ends s)) s ≡ behind_line s → drop (suc (position_or_len ends (b ∷ s))) (b ∷ s) ≡ behind_line (b ∷ s)
+    case true e h = rw e refl
+    case false e h = rw (skips s b e, e) h
+
+some-is : (t : Bool) (m i : ℕ) → cond t (Some m) None ≡ Some i → m ≡ i
+some-is true m i e = cc
+some-is false m i e = cc
+
+none-is : (t : Bool) (m : ℕ) → cond t (Some m) None ≡ None → t ≡ false
+none-is true m e = cc
+none-is false m e = refl
+
+module _ (s : List ℕ) where
+  pub up_to_end : (i : ℕ) → position ends s ≡ Some i → take i s ≡ line_of s
+  up_to_end i e = rw (← some-is _ _ _ e) (before-end s)
+
+  pub from_end : (i : ℕ) → position ends s ≡ Some i → take (length s - (i + 1)) (drop (i + 1) s) ≡ behind_line s
+  from_end i e =
+      let k : i + 1 ≡ suc (position_or_len ends s) = omega (arith, some-is _ _ _ e) in
+      take_all (length s - (i + 1)) (drop (i + 1) s) (omega (arith, length-drop (i + 1) s)) ∙ rw k (behind-end s)
+
+  module _ (e : position ends s ≡ None) where
+    past : length s ≤ position_or_len ends s
+    past = ltb-false (position_or_len ends s) (length s) (none-is _ _ e)
+
+    pub one_line : s ≡ line_of s
+    one_line = sym (take_all (position_or_len ends s) s past) ∙ before-end s
+
+    pub none_behind : [] ≡ behind_line s
+    none_behind = let h : length s ≤ suc (position_or_len ends s) = omega (arith, past) in sym (drop_of_length-le s h) ∙ behind-end s
+
+-- no line end is left
+pub at_row : (s : List ℕ) (n : ℕ) → n ≡ 0 → behind_lines n s ≡ s
+unfolding behind_lines
+at_row s n e = rw e refl
+
+-- one line end less is left, or there are no bytes
+pub passes : (s : List ℕ) (n : ℕ) → 0 < n → behind_lines n s ≡ behind_lines (n - 1) (behind_line s)
+unfolding behind_lines
+passes s zero k = absurd (omega arith)
+passes s (suc n) k = let m : suc n - 1 ≡ n = omega arith in rw m refl
+
+pub none_left : (s : List ℕ) (n : ℕ) → length s ≡ 0 → s ≡ behind_lines n s
 unfolding behind_lines behind_line
-none-behind zero = refl
-none-behind (suc n) = none-behind n
-
-module _ (table : List ℕ) (i : ℕ) where
-  -- the byte at a place, a line end or not
-  module _ (h : i < length table) where
-    here : drop i table ≡ get_or table i 0 ∷ drop (i + 1) table
-    here = rw add-one (drop-cons table i 0 h)
-
-    pub line-ends : get_or table i 0 ≡ 10 → line_of (drop i table) ≡ []
-    unfolding line_of
-    line-ends e = rw (here, eq-eqb (get_or table i 0) 10 e)
-
-    pub line-goes-on : (get_or table i 0 ≡ 10 → ⊥) → line_of (drop i table) ≡ get_or table i 0 ∷ line_of (drop (i + 1) table)
-    unfolding line_of
-    line-goes-on e = rw (here, ne_eqb (get_or table i 0) 10 e)
-
-    pub passes-end : (n : ℕ) → 0 < n → get_or table i 0 ≡ 10 → behind_lines n (drop i table) ≡ behind_lines (n - 1) (drop (i + 1) table)
-    unfolding behind_lines behind_line
-    passes-end zero k e = let none : ⊥ = omega arith in absurd none
-    passes-end (suc n) k e = let m : suc n - 1 ≡ n = omega arith in rw (m, here, eq-eqb (get_or table i 0) 10 e)
-
-    pub passes-other : (n : ℕ) → 0 < n → (get_or table i 0 ≡ 10 → ⊥) → behind_lines n (drop i table) ≡ behind_lines n (drop (i + 1) table)
-    unfolding behind_lines behind_line
-    passes-other zero k e = let none : ⊥ = omega arith in absurd none
-    passes-other (suc n) k e = rw (here, ne_eqb (get_or table i 0) 10 e)
-
-  -- the table's end
-  module _ (h : length table ≤ i) where
-    pub none_left : drop i table ≡ []
-    none_left = drop_of_length-le table h
-
-    pub no_line : line_of (drop i table) ≡ []
-    unfolding line_of
-    no_line = rw none_left
-
-    pub nothing-behind : (n : ℕ) → drop i table ≡ behind_lines n (drop i table)
-    nothing-behind n = rw none_left (sym (none-behind n))
+none_left s zero e = refl
+none_left [] (suc n) e = none_left [] n e
+none_left (b ∷ s) (suc n) e = absurd (omega arith)

@@ -23,6 +23,7 @@ pub const FRAME_AREA: usize = 8 + MAX_PAYLOAD;
 pub const WORK_AREA: usize = FRAME_AREA + 8 * MAX_COMMAND;
 
 // The numbers of a frame's eight header bytes. The type is called kind here, for `type` is a word of the language.
+// Stays numbers: a header may hold any, and rules 12 to 18 refuse them (`rules` in rules/specs/Rules.antt).
 #[derive(Clone, Copy)]
 pub struct Header {
     pub length: usize,
@@ -43,6 +44,7 @@ fn is_set(value: u8, flags: u8) -> bool
 }
 
 // The flags, by their names in document 01.
+// Stays a method for each flag: each is a name of document 01 with a definition of its own, and its body is one call of `is_set`.
 impl Header {
     #[tactic(auto, unfolding(crate::specs::Frame::begins))]
     pub fn begins(self) -> bool
@@ -93,20 +95,11 @@ impl Header {
     {
         let kind = self.kind;
         let flags = self.flags;
-        if kind == 1 {
-            let either = flags % 4;
-            if either == 0 {
-                return false;
-            }
-            return either != 3;
+        match kind {
+            1 => (flags % 4 != 0) & (flags % 4 != 3),
+            2 => (flags == 0x01) | (flags == 0x02),
+            _ => flags == 0x02,
         }
-        if kind == 2 {
-            if flags == 0x01 {
-                return true;
-            }
-            return flags == 0x02;
-        }
-        flags == 0x02
     }
 }
 
@@ -114,10 +107,7 @@ impl Header {
 pub fn byte_at(s: &[u8], i: usize) -> u8
     ensures { result ≡ get_or s.now i 0 }
 {
-    if i < s.len() {
-        return s[i];
-    }
-    0
+    s.get(i).copied().unwrap_or(0)
 }
 
 // The payload length that a frame's first three bytes claim.
@@ -125,10 +115,8 @@ pub fn byte_at(s: &[u8], i: usize) -> u8
 pub fn payload_length(frame: &[u8]) -> usize
     ensures { result ≡ length_of frame.now }
 {
-    let a = byte_at(frame, 0) as usize;
-    let b = byte_at(frame, 1) as usize;
-    let c = byte_at(frame, 2) as usize;
-    a + 256 * b + 65536 * c
+    let bytes = [byte_at(frame, 0), byte_at(frame, 1), byte_at(frame, 2), 0];
+    u32::from_le_bytes(bytes) as usize
 }
 
 // The header at the front of a frame.
@@ -137,12 +125,11 @@ pub fn read_header(frame: &[u8]) -> Header
     ensures { result ≡ header_of frame.now }
 {
     let length = payload_length(frame);
-    let low = byte_at(frame, 3) as u16;
-    let high = byte_at(frame, 4) as u16;
+    let request = u16::from_le_bytes([byte_at(frame, 3), byte_at(frame, 4)]);
     let last = byte_at(frame, 7);
     Header {
         length,
-        request: low + 256 * high,
+        request,
         stream: byte_at(frame, 5),
         stream_flags: byte_at(frame, 6),
         kind: last / 16,
@@ -151,16 +138,19 @@ pub fn read_header(frame: &[u8]) -> Header
 }
 
 // Puts a header's eight bytes into a buffer from a place on, as far as the buffer goes.
+// Stays a buffer and a place: C lends the buffer whole, and frames stand one behind the other in it.
 #[tactic(auto, unfolding(crate::specs::Header::header_bytes))]
 pub fn put_header(out: &mut [u8], at: usize, h: Header)
     ensures { out.new ≡ write out.old at (header_bytes h) }
 {
+    let length = h.length.to_le_bytes();
+    let request = h.request.to_le_bytes();
     let bytes = [
-        (h.length % 256) as u8,
-        (h.length / 256 % 256) as u8,
-        (h.length / 65536 % 256) as u8,
-        (h.request % 256) as u8,
-        (h.request / 256 % 256) as u8,
+        length[0],
+        length[1],
+        length[2],
+        request[0],
+        request[1],
         h.stream,
         h.stream_flags,
         h.kind % 16 * 16 + h.flags % 16,
@@ -172,7 +162,10 @@ pub fn put_header(out: &mut [u8], at: usize, h: Header)
 pub fn is_identity(payload: &[u8]) -> bool
     ensures { result ≡ is_identity payload.now }
 {
-    let Item::Bytes(start, stop) = cbor::read_item(payload, 0) else {
+    let Some(item) = cbor::read_item(payload, 0) else {
+        return false;
+    };
+    let Item::Bytes(start, stop) = item else {
         return false;
     };
     if stop != payload.len() {
@@ -185,11 +178,13 @@ pub fn is_identity(payload: &[u8]) -> bool
 pub fn bit(b: bool) -> u8
     ensures { result ≡ bit b }
 {
-    b as u8
+    u8::from(b)
 }
 
 // Puts a request's record into the output from a place on, and answers its length: kind 1 with the data bit, the mark and a command, or
 // kind 2 with the last bit and a payload. What does not fit is left out.
+// Stays a buffer and a place: C lends the buffer whole, and records stand one behind the other in it.
+// Stays numbers, the kind and the third byte: they are bytes of the layout, and `request_record` is of any.
 pub fn put_record(
     out: &mut [u8],
     at: usize,
@@ -204,16 +199,11 @@ pub fn put_record(
     if out.len() <= at {
         return body + 6;
     }
+    let size = body.to_le_bytes();
+    let kind = kind.to_le_bytes();
+    let request = request.to_le_bytes();
     let head = [
-        (body % 256) as u8,
-        (body / 256 % 256) as u8,
-        (body / 65536 % 256) as u8,
-        (body / 16777216 % 256) as u8,
-        (kind % 256) as u8,
-        (kind / 256 % 256) as u8,
-        (request % 256) as u8,
-        (request / 256 % 256) as u8,
-        third,
+        size[0], size[1], size[2], size[3], kind[0], kind[1], request[0], request[1], third,
     ];
     buffer::put(out, at, &head);
     buffer::put(out, at + 9, bytes);

@@ -1,18 +1,23 @@
 -- The answers of the calls on a board, case by case.
 -- Assumes nothing.
 use Prim.Native.Nat.{ℕ, ◌<◌, ◌≤◌}
-use mathlib.Core.Bool.{true, false}
+use mathlib.Core.Bool.{Bool, true, false}
 use mathlib.Core.List.{List}
-use mathlib.Core.Path.{◌≡◌, refl, ap, ◌∙◌}
+use mathlib.Core.Option.{some, none}
+use mathlib.Core.Path.{◌≡◌, refl, sym, ap, ◌∙◌}
+use Rattle.std.specs.Prelude as answer
+use Rattle.std.specs.Prelude.{Some, None, Result, Ok, Err}
+use Rattle.fields.specs.Fields.{read}
+use Rattle.std.specs.Result.{result_unwrap_or}
+use Rattle.board.specs.declared.Refusal.{Refusal}
 use lib.ListN.{length}
 use borrow.Author.Tests.{lt-ltb, le-ltb, eq-eqb, ne_eqb}
 use Rattle.board.specs.declared.Coil.{Coil}
 use Rattle.board.specs.declared.Board.{Board}
-use Rattle.board.specs.declared.Applied.{Applied}
-use Rattle.board.specs.Commands.{coil_count}
-use Rattle.board.specs.Board.{first_board, coil_at, applied}
-use Rattle.board_layout.specs.BoardBytes.{board_length, label_at, is_board, board_from, board_into}
-use Rattle.board_layout.proofs.BoardLaws.{board-length, board-none, board-read, board-put}
+use Rattle.board.specs.Commands.{coil_count, refusal_number}
+use Rattle.board.specs.Board.{first_board, coil_at, comes_to, applied}
+use Rattle.board_layout.specs.BoardBytes.{board_length, label_at, is_board, encode, decode, board_into}
+use Rattle.board_layout.proofs.BoardLaws.{board-length, board-none, board-put}
 use Rattle.hgrpc.specs.Calls.{kept, part, no_part}
 use Rattle.hgrpc.specs.Boards.{first_answer, applied_answer, apply_answer, switch, switch_answer, label_answer}
 
@@ -25,40 +30,54 @@ module _ (b : List ℕ) where
   unfolding first_answer
   first_done h x b' e f = rw (eq-eqb _ _ h, board-put b b' x h f, e)
 
-  pub apply_none : (s : List ℕ) → is_board b ≡ false → kept 3 b ≡ apply_answer b s
-  unfolding apply_answer
-  apply_none s e = rw (board-none b e)
+module _ (b : List ℕ) (o : answer.Option Board) (d : read o ≡ decode b) where
+  pub apply_none : (s : List ℕ) → o ≡ None → kept 3 b ≡ apply_answer b s
+  unfolding apply_answer read
+  apply_none s e = rw (← d, e)
 
-  pub apply_done : (s : List ℕ) → is_board b ≡ true → (x : Board) (a : Applied) (b' : List ℕ) → x ≡ board_from b → a ≡ applied s x → b' ≡ board_into b a.board
-      → kept a.number b' ≡ apply_answer b s
-  unfolding apply_answer
-  apply_done s e x a b' f g h =
-      rw (board-read b x e f)
-      (ap (kept a.number) (board-put b b' a.board (board-length b e) h) ∙ ap applied_answer g)
+  pub switch-none : (i : ℕ) → o ≡ None → switch 3 false ≡ switch_answer b i
+  unfolding switch_answer read
+  switch-none i e = rw (← d, e)
 
-  module _ (i : ℕ) where
-    pub switch-none : is_board b ≡ false → switch 3 false ≡ switch_answer b i
-    unfolding switch_answer
-    switch-none e = rw (board-none b e)
+  pub label-none : (i : ℕ) → o ≡ None → no_part 3 ≡ label_answer b i
+  unfolding label_answer read
+  label-none i e = rw (← d, e)
 
-    pub label-none : is_board b ≡ false → no_part 3 ≡ label_answer b i
-    unfolding label_answer
-    label-none e = rw (board-none b e)
+  module _ (x : Board) (e : o ≡ Some x) where
+    is : decode b ≡ some x
+    unfolding read
+    is = sym d ∙ ap read e
 
-    module _ (e : is_board b ≡ true) where
+    long : length b ≡ board_length
+    long = by (is_board b) refl
+      where
+        by : (t : Bool) → is_board b ≡ t → length b ≡ board_length
+        by true f = board-length b f
+        by false f = let k : none ≡ some x = sym (board-none b f) ∙ is in absurd (cc)
+
+    -- the board after the command is put back, as it was where the command is refused
+    pub apply_done : (s : List ℕ) (r : Result Board Refusal) (b' : List ℕ) → comes_to x r ≡ applied s x → b' ≡ board_into b (result_unwrap_or r x) → kept (comes_to x r).number b' ≡ apply_answer b s
+    unfolding apply_answer
+    apply_done s r b' g f = rw (is, ← g) (by r (board-put b b' (result_unwrap_or r x) long f))
+      where
+        by : (r : Result Board Refusal) → b' ≡ encode (result_unwrap_or r x) → kept (comes_to x r).number b' ≡ applied_answer (comes_to x r)
+        by (Ok next) h = ap (kept 0) h
+        by (Err q) h = ap (kept (refusal_number q)) h
+
+    module _ (i : ℕ) where
       pub switch_outside : coil_count ≤ i → switch 42 false ≡ switch_answer b i
       unfolding switch_answer
-      switch_outside h = rw (board-read b (board_from b) e refl, le-ltb i coil_count h)
+      switch_outside h = rw (is, le-ltb i coil_count h)
 
       pub label_outside : coil_count ≤ i → no_part 42 ≡ label_answer b i
       unfolding label_answer
-      label_outside h = rw (board-read b (board_from b) e refl, le-ltb i coil_count h)
+      label_outside h = rw (is, le-ltb i coil_count h)
 
-      module _ (h : i < coil_count) (x : Board) (c : Coil) (f : x ≡ board_from b) (g : c ≡ coil_at x i) where
+      module _ (h : i < coil_count) (c : Coil) (g : c ≡ coil_at x i) where
         pub switch-done : switch 0 c.on ≡ switch_answer b i
         unfolding switch_answer
-        switch-done = rw (board-read b x e f, lt-ltb i coil_count h) (ap (λ (d : Coil). switch 0 d.on) g)
+        switch-done = rw (is, lt-ltb i coil_count h) (ap (λ (y : Coil). switch 0 y.on) g)
 
         pub label-done : part 0 (label_at i) c.length ≡ label_answer b i
         unfolding label_answer
-        label-done = rw (board-read b x e f, lt-ltb i coil_count h) (ap (λ (d : Coil). part 0 (label_at i) d.length) g)
+        label-done = rw (is, lt-ltb i coil_count h) (ap (λ (y : Coil). part 0 (label_at i) y.length) g)

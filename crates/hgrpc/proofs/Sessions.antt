@@ -35,7 +35,8 @@ use Rattle.demands.proofs.CutLaws.{small-request}
 use Rattle.fields.specs.Laws.{AreBytes, AllFit}
 use Rattle.status.specs.Row.{active_of}
 use Rattle.layout.specs.State.{SlotFits, StateFits, encode}
-use Rattle.hgrpc.specs.Calls.{Kept, kept, Answer, fed_answer, replied, feed_answer, finish_answer, active_count, active_answer}
+use Rattle.hgrpc.specs.Calls.{Kept, kept, Answer, fed_answer, replied, feed_answer, finish_answer, active_answer}
+use Rattle.status.specs.Row.{active_count}
 use Rattle.hgrpc.specs.Laws.{Lent, lent, calls, in_bytes, Starts, AllSessions, FreshStarts, ActiveInBytes}
 use Rattle.fields.proofs.FieldLaws.{bytes_drop}
 use Rattle.layout.proofs.StateLaws.{back}

@@ -1,9 +1,8 @@
 -- What the calls on a board for C and Rust answer, with every lent byte after them, by the board's own definitions: its bytes are decoded, and
 -- what the call leaves is encoded. These are definitions: they assume nothing.
 use Rattle.std.specs.Prelude.{ℕ, Bool, false, cond, List, length, eqb, ltb}
-use Rattle.board.specs.declared.Applied.{Applied}
 use Rattle.board.specs.Commands.{coil_count}
-use Rattle.board.specs.Board.{first_board, coil_at, applied}
+use Rattle.board.specs.Board.{Applied, first_board, coil_at, applied}
 use Rattle.board_layout.specs.BoardBytes.{board_length, label_at, encode, decode}
 use Rattle.hgrpc.specs.Calls.{if_value, Kept, kept, Part, part, no_part}
 

@@ -1,6 +1,6 @@
 -- What the calls for C and Rust answer, with every lent byte after them, by the channel's and the commands' own definitions: a state's bytes
 -- are decoded, and what the call leaves is encoded. These are definitions: they assume nothing.
-use Rattle.std.specs.Prelude.{ℕ, ◌-◌, cond, List, length, eqb, ltb, ℤ}
+use Rattle.std.specs.Prelude.{ℕ, ◌-◌, cond, List, length, eqb, ltb, ℤ, Result, Ok, Err}
 use Rattle.std.proofs.Math.Option.{Option, some, none}
 use Rattle.frame.specs.Limits.{work_area}
 use Rattle.session.specs.Session.{Feed, Reply}
@@ -8,12 +8,11 @@ use Rattle.channel.specs.declared.Channel.{Channel}
 use Rattle.channel.specs.Receiver.{Receiver, fresh_state}
 use Rattle.channel.specs.Channel.{feed_of, finish_of}
 use Rattle.command.specs.declared.Place.{Place}
-use Rattle.command.specs.declared.Place.TheVariants.{Found, NotFound}
+use Rattle.command.specs.declared.LookupError.{LookupError}
 use Rattle.command.specs.Command.{checked, if_command}
-use Rattle.command.specs.Lookup.{argument_at, integer_at, number_number, number_value}
+use Rattle.command.specs.Lookup.{error_number, argument_at, integer_at, number_number, number_value}
 use Rattle.layout.specs.State.{state_length, encode, decode}
-use Rattle.status.specs.declared.ActiveCount.{ActiveCount}
-use Rattle.status.specs.Row.{active_of, Shown, shown, shown_in_bytes}
+use Rattle.status.specs.Row.{ActiveCount, active_count, active_of, Shown, shown, shown_in_bytes}
 
 -- ---- a value in lent bytes
 
@@ -66,9 +65,6 @@ feed_answer b work input out =
 
 -- ---- a screen
 
-abbrev pub active_count : ℕ → ℕ → ActiveCount
-active_count n count = record { number = n; count = count }
-
 unfoldable pub active_answer : List ℕ → ActiveCount
 active_answer b = if_value (decode b) active_of (active_count 3 0)
 
@@ -95,9 +91,9 @@ no_part n = part n 0 0
 unfoldable pub name_answer : List ℕ → Part
 name_answer s = if_command (checked s) (λ start stop count first. between start stop) no_part
 
-abbrev pub place_part : Place → Part
-place_part (Found start stop) = between start stop
-place_part (NotFound n) = no_part n
+abbrev pub place_part : Result Place LookupError → Part
+place_part (Ok p) = between p.start p.stop
+place_part (Err e) = no_part (error_number e)
 
 unfoldable pub argument_answer : List ℕ → List ℕ → Part
 argument_answer s key = place_part (argument_at s key)

@@ -1,4 +1,5 @@
 // The board for C and Rust: its coils are a lent run of bytes.
+// Stays in numbers, with a `&mut` for each answer: the C interface; so do all calls here.
 ghost use Rattle.std.specs.Prelude.{◌≡◌};
 ghost use Rattle.hgrpc.specs.Calls.{kept, part};
 ghost use Rattle.hgrpc.specs.Boards.{first_answer, apply_answer, switch, switch_answer, label_answer};
@@ -22,14 +23,15 @@ pub extern "C" fn hgrpc_board_first(bytes: &mut [u8]) -> u32
 pub extern "C" fn hgrpc_board_apply(bytes: &mut [u8], command: &[u8]) -> u32
     ensures { kept result bytes.new ≡ apply_answer bytes.old command.now }
 {
-    if !board_layout::is_board(&bytes[..]) {
+    let Some(board) = board_layout::read(&bytes[..]) else {
         return 3;
-    }
-    let board = board_layout::board_of(&bytes[..]);
+    };
     let applied = board.apply(command);
-    let next = applied.board;
-    board_layout::put_board(bytes, next);
-    applied.number
+    board_layout::put_board(bytes, applied.unwrap_or(board));
+    match applied {
+        Ok(_) => 0,
+        Err(refusal) => u32::from(refusal),
+    }
 }
 
 // Whether a coil is on: 0; or 3 (bytes that are no board) or 42 (no such coil), and false.
@@ -38,15 +40,13 @@ pub extern "C" fn hgrpc_board_switch(bytes: &[u8], coil: usize, on: &mut bool) -
     ensures { switch result on.new ≡ switch_answer bytes.now coil }
 {
     *on = false;
-    if !board_layout::is_board(bytes) {
+    let Some(board) = board_layout::read(bytes) else {
         return 3;
-    }
+    };
     if board::COILS <= coil {
         return 42;
     }
-    let board = board_layout::board_of(bytes);
-    let c = board.coil_at(coil);
-    *on = c.on;
+    *on = board.coil_at(coil).on;
     0
 }
 
@@ -62,15 +62,13 @@ pub extern "C" fn hgrpc_board_label(
 {
     *at = 0;
     *size = 0;
-    if !board_layout::is_board(bytes) {
+    let Some(board) = board_layout::read(bytes) else {
         return 3;
-    }
+    };
     if board::COILS <= coil {
         return 42;
     }
-    let board = board_layout::board_of(bytes);
-    let c = board.coil_at(coil);
     *at = board_layout::COIL * coil + board_layout::LABEL;
-    *size = c.length;
+    *size = board.coil_at(coil).length;
     0
 }

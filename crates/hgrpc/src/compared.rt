@@ -1,21 +1,28 @@
-// The calls that compare two stored logs, for C and Rust. The fields of a struct are lent one by one; the header and the bindings have the
-// structs.
+// The calls that compare two stored logs, for C and Rust. The header and the bindings have the structs.
+// Stays so, that the fields of a struct are lent one by one, and an entry is numbers: the exported names have these arguments.
 ghost use Rattle.std.specs.Prelude.{◌≡◌, replicate};
-ghost use Rattle.log_compare.specs.Entries.{broken_of};
+ghost use Rattle.log_compare.specs.Entries.{told_of, broken_of};
 ghost use Rattle.log_compare.specs.Scan.{scan_of};
 ghost use Rattle.log_compare.specs.Steps.{is_end};
 ghost use Rattle.hgrpc.specs.Compared.{told, place, under, scanned, compared, next, next_call, step, step_call};
 
-use log_compare::{Broken, Comparing, Partial, Place, Scanning};
+use log_compare::{Broken, Comparing, Entry, Partial, Piece, Place, Scanning};
 
 // The first of two logs that ends inside a record, 1 or 2, and the place where that record starts; 0 and 0 if both are whole.
 #[unsafe(no_mangle)]
 pub extern "C" fn hgrpc_logs_broken(first: &[u8], second: &[u8], place: &mut u64) -> u32
     ensures { record { log = result; place = place.new } ≡ broken_of first.now second.now }
 {
-    let broken = Broken::of(first, second);
-    *place = broken.place;
-    broken.log
+    match Broken::of(first, second) {
+        Some(broken) => {
+            *place = broken.place;
+            u32::from(broken.log)
+        }
+        None => {
+            *place = 0;
+            0
+        }
+    }
 }
 
 // The next entry of two logs from a place on, which moves behind that record: which logs have the record, its number and the length of each
@@ -45,12 +52,28 @@ pub extern "C" fn hgrpc_next_entry(
     *number = behind.number;
     *at_first = behind.first;
     *at_second = behind.second;
-    let said = found.said;
+    put_entry(found.said, entry_number, entry_first, entry_second)
+}
+
+// Puts an entry's numbers to the places lent for them, and answers which logs have its record; zeros for none.
+fn put_entry(said: Option<Entry>, number: &mut u64, first: &mut u64, second: &mut u64) -> u32
+    ensures { told result number.new first.new second.new ≡ told_of said }
+{
     let told = log_compare::tell(said);
-    *entry_number = told.number;
-    *entry_first = told.first;
-    *entry_second = told.second;
+    *number = told.number;
+    *first = told.first;
+    *second = told.second;
     told.logs
+}
+
+// Puts the record under way to the places lent for its fields.
+fn put_under(partial: Partial, head: &mut [u8; 6], held: &mut usize, left: &mut u64)
+    ensures { under head.new held.new left.new ≡ partial }
+{
+    let bytes = partial.head;
+    *head = bytes;
+    *held = partial.held;
+    *left = partial.left;
 }
 
 // Takes a piece of a log that is read through for a break.
@@ -66,10 +89,9 @@ pub extern "C" fn hgrpc_scan_piece(
     ensures { scanned (under head.new held.new left.new) start.new place.new
         ≡ scan_of (scanned (under head.old held.old left.old) start.old place.old) piece.now }
 {
-    let bytes = *head;
     let before = Scanning {
         under: Partial {
-            head: bytes,
+            head: *head,
             held: *held,
             left: *left,
         },
@@ -77,11 +99,7 @@ pub extern "C" fn hgrpc_scan_piece(
         place: *place,
     };
     let after = before.scan(piece);
-    let under = after.under;
-    let next = under.head;
-    *head = next;
-    *held = under.held;
-    *left = under.left;
+    put_under(after.under, head, held, left);
     *start = after.start;
     *place = after.place;
 }
@@ -117,46 +135,39 @@ pub extern "C" fn hgrpc_compare_step(
         (under second_head.old second_held.old second_left.old) alike.old)
         first.now first_last second.now second_last }
 {
-    let one = *first_head;
-    let two = *second_head;
     let before = Comparing {
         number: *number,
         length: *length,
         first: Partial {
-            head: one,
+            head: *first_head,
             held: *first_held,
             left: *first_left,
         },
         second: Partial {
-            head: two,
+            head: *second_head,
             held: *second_held,
             left: *second_left,
         },
         alike: *alike,
     };
-    let step = before.step(first, first_last, second, second_last);
+    let a = Piece {
+        bytes: first,
+        is_last: first_last,
+    };
+    let b = Piece {
+        bytes: second,
+        is_last: second_last,
+    };
+    let step = before.step(a, b);
     let after = step.state;
     *number = after.number;
     *length = after.length;
     *alike = after.alike;
-    let a = after.first;
-    let a_head = a.head;
-    *first_head = a_head;
-    *first_held = a.held;
-    *first_left = a.left;
-    let b = after.second;
-    let b_head = b.head;
-    *second_head = b_head;
-    *second_held = b.held;
-    *second_left = b.left;
+    put_under(after.first, first_head, first_held, first_left);
+    put_under(after.second, second_head, second_held, second_left);
     *first_taken = step.first;
     *second_taken = step.second;
-    let said = step.said;
-    let told = log_compare::tell(said);
-    *entry_number = told.number;
-    *entry_first = told.first;
-    *entry_second = told.second;
-    told.logs
+    put_entry(step.said, entry_number, entry_first, entry_second)
 }
 
 // Whether no record is under way in either log, by the bytes held of each head and what is left of each body.
@@ -169,17 +180,16 @@ pub extern "C" fn hgrpc_is_between(
 ) -> bool
     ensures { result ≡ is_end (compared 0 0 (under (replicate 6 0) first_held first_left) (under (replicate 6 0) second_held second_left) 0) }
 {
-    let head = [0u8; 6];
     let state = Comparing {
         number: 0,
         length: 0,
         first: Partial {
-            head,
+            head: [0; 6],
             held: first_held,
             left: first_left,
         },
         second: Partial {
-            head,
+            head: [0; 6],
             held: second_held,
             left: second_left,
         },

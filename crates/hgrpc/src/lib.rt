@@ -45,15 +45,13 @@ pub extern "C" fn hgrpc_feed(
     if work.len() < frame::WORK_AREA {
         return 2;
     }
-    if !layout::is_state(&state[..]) {
+    let Some(channel) = layout::read(&state[..]) else {
         return 3;
-    }
-    let channel = layout::state_of(&state[..]);
+    };
     let fed = channel.feed(work, input, out);
     *taken = fed.taken;
     *written = fed.written;
-    let next = fed.channel;
-    layout::put_state(state, next);
+    layout::put_state(state, fed.channel);
     fed.number as u32
 }
 
@@ -62,12 +60,17 @@ pub extern "C" fn hgrpc_feed(
 pub extern "C" fn hgrpc_finish(state: &mut [u8], id: u16) -> u32
     ensures { kept result state.new ≡ finish_answer state.old id }
 {
-    if !layout::is_state(&state[..]) {
+    let Some(channel) = layout::read(&state[..]) else {
         return 3;
+    };
+    match channel.finish(id) {
+        Ok(next) => {
+            layout::put_state(state, next);
+            0
+        }
+        Err(refusal) => {
+            layout::put_state(state, channel);
+            u8::from(refusal) as u32
+        }
     }
-    let channel = layout::state_of(&state[..]);
-    let finished = channel.finish(id);
-    let next = finished.channel;
-    layout::put_state(state, next);
-    finished.number as u32
 }

@@ -8,6 +8,7 @@ use sender::Wishes;
 
 // Writes the frames that carry a command and, where it has some, its data: 0 and the bytes written; or 50, 51, 52, 53 or 54, nothing is
 // written, and the output is unchanged.
+// Stays with `with_data` beside `data`, and a number: the C interface.
 #[unsafe(no_mangle)]
 pub extern "C" fn hgrpc_send(
     name: &[u8],
@@ -32,7 +33,13 @@ pub extern "C" fn hgrpc_send(
         end,
         size,
     };
-    let sent = sender::send(out, how, name, pairs, count, with_data, data);
-    *written = sent.written;
-    sent.number
+    *written = 0;
+    let data = with_data.then_some(data);
+    match sender::send(out, how, name, pairs, count, data) {
+        Ok(n) => {
+            *written = n;
+            0
+        }
+        Err(refusal) => u32::from(refusal),
+    }
 }

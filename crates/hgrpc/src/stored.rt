@@ -10,9 +10,16 @@ ghost use Rattle.logs.specs.Convert.{convert_of};
 pub extern "C" fn hgrpc_convert(log: &[u8], out: &mut [u8], written: &mut usize) -> u32
     ensures { answer result written.new out.new ≡ convert_of log.now out.old }
 {
-    let converted = logs::convert(log, out);
-    *written = converted.written;
-    converted.number
+    match logs::convert(log, out) {
+        Ok(n) => {
+            *written = n;
+            0
+        }
+        Err(refusal) => {
+            *written = 0;
+            u32::from(refusal)
+        }
+    }
 }
 
 // How many bytes the whole records in front of a log with two-byte lengths take: all of them, or those before a broken record.

@@ -1,19 +1,20 @@
 -- The order of keys: by lengths, then by bytes. It is strict, and two keys stand at one place in it only if they are equal.
 -- Assumes nothing.
-use mathlib.Core.Path.{◌≡◌, refl, sym, ◌∙◌}
-use mathlib.Core.Bool.{Bool, true, false, cond}
+use mathlib.Core.Path.{◌≡◌, refl, sym, ap, ◌∙◌}
+use mathlib.Core.Bool.{Bool, true, false, cond, false≢true}
+use mathlib.Core.Logic.{◌⊎◌, inl, inr}
 use mathlib.Core.List.{List, [], ◌∷◌}
-use Prim.Native.Nat.{ℕ, ◌+◌, ◌≤◌, ◌<◌}
-use native.Mathlib.Numerals.{add-one}
+use Prim.Native.Nat.{ℕ, ◌<◌}
 use native.Mathlib.Omega.{arith}
 use lib.Dec.{ltb}
-use lib.ListN.{length, drop, get_or, drop_of_length-le}
-use lib.Seq.{drop-cons}
-use borrow.Author.Tests.{ltb-true, ltb-false, lt-ltb, le-ltb}
-use Rattle.keys.specs.declared.Order.{Order}
-use Rattle.keys.specs.declared.Order.TheVariants.{Before, Same, After}
+use lib.ListN.{length}
+use borrow.Author.Tests.{ltb-true, ltb-false}
+use Rattle.std.specs.declared.cmp.Ordering.{Ordering}
+use Rattle.std.specs.declared.cmp.Ordering.TheVariants.{Less, Equal, Greater}
+use Rattle.std.specs.Ordering.{is_eq, is_ne, ordering_then, nat_cmp}
+use Rattle.std.specs.Cmp.{nat_cmp_is}
 use Rattle.keys.specs.Keys.{equal}
-use Rattle.keys.specs.Order.{by_number, by_bytes, compare, is_same, same, SameIsEqual}
+use Rattle.keys.specs.Order.{by_number, by_bytes, compare, same, SameIsEqual}
 use Rattle.keys.proofs.Equal.{equal-true, equal-refl, equal-sym}
 
 -- of keys of one length, the first stands before the second
@@ -22,9 +23,9 @@ pub data Lower : List ℕ → List ℕ → Type 0 where
   there : {x y : ℕ} {a b : List ℕ} → x ≡ y → Lower a b → Lower (x ∷ a) (y ∷ b)
 
 -- a key stands before another
-pub data Less (a b : List ℕ) : Type 0 where
-  shorter : length a < length b → Less a b
-  lower : length a ≡ length b → Lower a b → Less a b
+pub data Precedes (a b : List ℕ) : Type 0 where
+  shorter : length a < length b → Precedes a b
+  lower : length a ≡ length b → Lower a b → Precedes a b
 
 lower_trans : (a b c : List ℕ) → Lower a b → Lower b c → Lower a c
 lower_trans (x ∷ a) (y ∷ b) (z ∷ c) (here h) (here k) = let l : x < z = omega arith in here l
@@ -40,18 +41,21 @@ lower-not (x ∷ a) (here h) = omega arith
 lower-not (x ∷ a) (there e h) = lower-not a h
 lower-not [] h = elim h [ ]
 
-pub less_trans : (a b c : List ℕ) → Less a b → Less b c → Less a c
+pub less_trans : (a b c : List ℕ) → Precedes a b → Precedes b c → Precedes a c
 less_trans a b c (shorter h) (shorter k) = shorter (omega arith)
 less_trans a b c (shorter h) (lower e k) = shorter (omega arith)
 less_trans a b c (lower e h) (shorter k) = shorter (omega arith)
 less_trans a b c (lower e h) (lower f k) = lower (e ∙ f) (lower_trans a b c h k)
 
-less-not : (a : List ℕ) → Less a a → ⊥
+less-not : (a : List ℕ) → Precedes a a → ⊥
 less-not a (shorter h) = omega arith
 less-not a (lower e h) = lower-not a h
 
+cons-not : {x : ℕ} {a : List ℕ} → x ∷ a ≡ [] → ⊥
+cons-not {x} {a} e = let l : length (x ∷ a) ≡ 0 = ap length e in omega arith
+
 -- keys of which one stands before the other are not equal
-pub less_differs : (a b : List ℕ) → Less a b → equal a b ≡ false
+pub less_differs : (a b : List ℕ) → Precedes a b → equal a b ≡ false
 less_differs a b h = by (equal a b) refl
   where
     by : (t : Bool) → equal a b ≡ t → equal a b ≡ false
@@ -59,16 +63,16 @@ less_differs a b h = by (equal a b) refl
     by false e = e
 
 -- what the comparison says
-abbrev Says : Type 0 → Type 0 → Type 0 → Order → Type 0
-Says L E G Before = L
-Says L E G Same = E
-Says L E G After = G
+abbrev Says : Type 0 → Type 0 → Type 0 → Ordering → Type 0
+Says L E G Less = L
+Says L E G Equal = E
+Says L E G Greater = G
 
 -- two numbers, and what decides between equal ones
-by_number_lem : (L E G : Type 0) (m n : ℕ) (d : Order) → (m < n → L) → (m ≡ n → Says L E G d) → (n < m → G) → Says L E G (by_number m n d)
+by_number_lem : (L E G : Type 0) (m n : ℕ) (d : Ordering) → (m < n → L) → (m ≡ n → Says L E G d) → (n < m → G) → Says L E G (by_number m n d)
 by_number_lem L E G m n d f g h = by (ltb m n) refl (ltb n m) refl
   where
-    by : (t : Bool) → ltb m n ≡ t → (u : Bool) → ltb n m ≡ u → Says L E G (cond t Before (cond u After d))
+    by : (t : Bool) → ltb m n ≡ t → (u : Bool) → ltb n m ≡ u → Says L E G (cond t Less (cond u Greater d))
     by true p u q = f (ltb-true m n p)
     by false p true q = h (ltb-true n m q)
     by false p false q =
@@ -76,10 +80,10 @@ by_number_lem L E G m n d f g h = by (ltb m n) refl (ltb n m) refl
         let j = ltb-false n m q in
         g (omega arith)
 
-mapped : {L E G L' E' G' : Type 0} (d : Order) → (L → L') → (E → E') → (G → G') → Says L E G d → Says L' E' G' d
-mapped Before f g h x = f x
-mapped Same f g h x = g x
-mapped After f g h x = h x
+mapped : {L E G L' E' G' : Type 0} (d : Ordering) → (L → L') → (E → E') → (G → G') → Says L E G d → Says L' E' G' d
+mapped Less f g h x = f x
+mapped Equal f g h x = g x
+mapped Greater f g h x = h x
 
 cons_same : {x y : ℕ} {a b : List ℕ} → x ≡ y → a ≡ b → x ∷ a ≡ y ∷ b
 cons_same e f = rw (e, f)
@@ -94,7 +98,7 @@ lower-says (x ∷ a) (y ∷ b) h =
     (λ e. mapped (by_bytes a b) (there e) (cons_same e) (there (sym e)) (lower-says a b (omega arith)))
     here
 
-pub compare-says : (a b : List ℕ) → Says (Less a b) (a ≡ b) (Less b a) (compare a b)
+pub compare-says : (a b : List ℕ) → Says (Precedes a b) (a ≡ b) (Precedes b a) (compare a b)
 unfolding compare
 compare-says a b =
     by_number_lem _ _ _ (length a) (length b) (by_bytes a b) shorter
@@ -103,48 +107,83 @@ compare-says a b =
 
 -- by what the comparison answers
 module _ (a b : List ℕ) where
-  pub before : compare a b ≡ Before → Less a b
+  pub before : compare a b ≡ Less → Precedes a b
   before h = rw h at (compare-says a b)
 
-  pub at_one : compare a b ≡ Same → a ≡ b
+  pub at_one : compare a b ≡ Equal → a ≡ b
   at_one h = rw h at (compare-says a b)
 
-  pub after : compare a b ≡ After → Less b a
+  pub after : compare a b ≡ Greater → Precedes b a
   after h = rw h at (compare-says a b)
 
-  pub is-before : Less a b → compare a b ≡ Before
+  pub is-before : Precedes a b → compare a b ≡ Less
   is-before l = by (compare a b) refl
     where
-      by : (o : Order) → compare a b ≡ o → compare a b ≡ Before
-      by Before h = h
-      by Same h = absurd (less-not a (rw (← at_one h) at l))
-      by After h = absurd (less-not a (less_trans a b a l (after h)))
+      by : (o : Ordering) → compare a b ≡ o → compare a b ≡ Less
+      by Less h = h
+      by Equal h = absurd (less-not a (rw (← at_one h) at l))
+      by Greater h = absurd (less-not a (less_trans a b a l (after h)))
 
 -- the comparison that goes by the lengths first is equality by content
 pub same-is-equal : SameIsEqual
 unfolding same
 same-is-equal a b = by (compare a b) refl
   where
-    by : (o : Order) → compare a b ≡ o → is_same o ≡ equal a b
-    by Before h = sym (less_differs a b (before a b h))
-    by Same h = sym (rw (at_one a b h) (equal-refl b))
-    by After h = sym (equal-sym a b ∙ less_differs b a (after a b h))
+    by : (o : Ordering) → compare a b ≡ o → is_eq o ≡ equal a b
+    by Less h = sym (less_differs a b (before a b h))
+    by Equal h = sym (rw (at_one a b h) (equal-refl b))
+    by Greater h = sym (equal-sym a b ∙ less_differs b a (after a b h))
 
--- the loop over the bytes: what follows the i bytes passed decides
-module _ (a b : List ℕ) (i : ℕ) (long : length a ≡ length b) where
-  step : i < length a → by_bytes (drop i a) (drop i b) ≡ by_number (get_or a i 0) (get_or b i 0) (by_bytes (drop (i + 1) a) (drop (i + 1) b))
+-- the library's comparison of numbers, and what decides between equal ones
+by_cmp : (m n : ℕ) (d : Ordering) → by_number m n d ≡ ordering_then (nat_cmp m n) d
+by_cmp m n d = by (ltb m n) refl (ltb n m) refl
+  where
+    by : (t : Bool) → ltb m n ≡ t → (u : Bool) → ltb n m ≡ u → cond t Less (cond u Greater d) ≡ ordering_then (nat_cmp m n) d
+    by true p u q = rw (← nat_cmp_is m n Less (ltb-true m n p))
+    by false p true q = rw (← nat_cmp_is m n Greater (ltb-true n m q))
+    by false p false q =
+        let i = ltb-false m n p in
+        let j = ltb-false n m q in
+        let e : m ≡ n = omega arith in
+        rw (← nat_cmp_is m n Equal e)
+
+-- by what the comparison of the first bytes of two keys answers
+module _ (x y : ℕ) (a b : List ℕ) (o : Ordering) (is : o ≡ nat_cmp x y) where
+  first : by_bytes (x ∷ a) (y ∷ b) ≡ ordering_then o (by_bytes a b)
   unfolding by_bytes
-  step h = let k : i < length b = omega arith in rw (add-one, drop-cons a i 0 h, drop-cons b i 0 k)
+  first = by_cmp x y (by_bytes a b) ∙ rw is
 
-  pub lesser : i < length a → get_or a i 0 < get_or b i 0 → by_bytes a b ≡ by_bytes (drop i a) (drop i b) → Before ≡ by_bytes a b
-  lesser h l e = sym (e ∙ step h ∙ rw (lt-ltb _ _ l))
+  pub differs : is_ne o ≡ true → o ≡ by_bytes (x ∷ a) (y ∷ b)
+  differs h = sym (first ∙ by o h)
+    where
+      by : (o : Ordering) → is_ne o ≡ true → ordering_then o (by_bytes a b) ≡ o
+      by Less h = refl
+      by Equal h = absurd (false≢true h)
+      by Greater h = refl
 
-  pub greater : i < length a → get_or b i 0 ≤ get_or a i 0 → get_or b i 0 < get_or a i 0 → by_bytes a b ≡ by_bytes (drop i a) (drop i b) → After ≡ by_bytes a b
-  greater h n l e = sym (e ∙ step h ∙ rw (le-ltb _ _ n, lt-ltb _ _ l))
+  pub agrees : is_ne o ≡ false → by_bytes (x ∷ a) (y ∷ b) ≡ by_bytes a b
+  agrees h = first ∙ by o h
+    where
+      by : (o : Ordering) → is_ne o ≡ false → ordering_then o (by_bytes a b) ≡ by_bytes a b
+      by Less h = absurd (false≢true (sym h))
+      by Equal h = refl
+      by Greater h = absurd (false≢true (sym h))
 
-  pub agrees : i < length a → get_or b i 0 ≤ get_or a i 0 → get_or a i 0 ≤ get_or b i 0 → by_bytes a b ≡ by_bytes (drop i a) (drop i b) → by_bytes a b ≡ by_bytes (drop (i + 1) a) (drop (i + 1) b)
-  agrees h n m e = e ∙ step h ∙ rw (le-ltb _ _ n, le-ltb _ _ m)
+-- where a key has no byte left, the bytes decide nothing
+pub all-agree : (a b : List ℕ) → (a ≡ []) ⊎ (b ≡ []) → by_bytes a b ≡ Equal
+unfolding by_bytes
+all-agree [] b h = refl
+all-agree (x ∷ a) [] h = refl
+all-agree (x ∷ a) (y ∷ b) (inl e) = absurd (cons-not e)
+all-agree (x ∷ a) (y ∷ b) (inr e) = absurd (cons-not e)
 
-  pub all_agree : length a ≤ i → by_bytes a b ≡ by_bytes (drop i a) (drop i b) → Same ≡ by_bytes a b
-  unfolding by_bytes
-  all_agree h e = sym (e ∙ rw (drop_of_length-le a h))
+-- an answer that is not Equal decides
+pub decides : (o d : Ordering) → (o ≡ Equal → ⊥) → ordering_then o d ≡ o
+decides Less d h = refl
+decides Equal d h = absurd (h refl)
+decides Greater d h = refl
+
+-- the lengths first
+pub by-lengths : (a b : List ℕ) → compare a b ≡ ordering_then (nat_cmp (length a) (length b)) (by_bytes a b)
+unfolding compare
+by-lengths a b = by_cmp (length a) (length b) (by_bytes a b)

@@ -6,67 +6,42 @@ ghost use Rattle.std.specs.Prelude.{◌≡◌, length};
 ghost use Rattle.keys.specs.Keys.{part, equal};
 ghost use Rattle.keys.specs.Order.{by_bytes, compare};
 
-// Where a key stands to another: before it, after it, or they are equal by content.
-#[derive(Clone, Copy)]
-pub enum Order {
-    Before,
-    Same,
-    After,
-}
+use std::cmp::Ordering;
 
 // The bytes of s from start up to stop, as far as there are any.
 pub fn part(s: &[u8], start: usize, stop: usize) -> &[u8]
     ensures { result.now ≡ part s.now start stop }
 {
-    let mut end = stop;
-    if s.len() < end {
-        end = s.len();
-    }
-    if end <= start {
-        return &s[0..0];
-    }
-    &s[start..end]
+    s.get(start..stop.min(s.len())).unwrap_or(&[])
 }
 
 // Where a key stands to another of its length. It is the one place where bytes of two keys are compared.
-fn by_bytes(a: &[u8], b: &[u8]) -> Order
+fn by_bytes(a: &[u8], b: &[u8]) -> Ordering
     requires { length a.now ≡ length b.now }
     ensures { result ≡ by_bytes a.now b.now }
 {
-    let mut i: usize = 0;
-    while i < a.len() {
-        let x = a[i];
-        let y = b[i];
-        if x < y {
-            return Order::Before;
+    for (x, y) in a.iter().zip(b) {
+        let order = x.cmp(y);
+        if order.is_ne() {
+            return order;
         }
-        if y < x {
-            return Order::After;
-        }
-        i += 1;
     }
-    Order::Same
+    Ordering::Equal
 }
 
 // Where a key stands to another: the shorter before the longer.
-pub fn compare(a: &[u8], b: &[u8]) -> Order
+pub fn compare(a: &[u8], b: &[u8]) -> Ordering
     ensures { result ≡ compare a.now b.now }
 {
-    if a.len() < b.len() {
-        return Order::Before;
+    match a.len().cmp(&b.len()) {
+        Ordering::Equal => by_bytes(a, b),
+        order => order,
     }
-    if b.len() < a.len() {
-        return Order::After;
-    }
-    by_bytes(a, b)
 }
 
 // Whether two keys are equal by content.
 pub fn same_key(a: &[u8], b: &[u8]) -> bool
     ensures { result ≡ equal a.now b.now }
 {
-    let Order::Same = compare(a, b) else {
-        return false;
-    };
-    true
+    compare(a, b).is_eq()
 }

@@ -14,7 +14,7 @@ use Rattle.log_compare.specs.Steps.{both_begin, first_begins, second_begins, hea
 use Rattle.log_compare.specs.Laws.{said_of, Steps, done, step, SaysAll, EndsWhole, is_rest}
 use Rattle.log_compare.specs.declared.Entry.{Entry}
 use Rattle.log_compare.specs.declared.Entry.TheVariants.{Both}
-use Rattle.log_compare.specs.declared.Said.TheVariants.{Nothing, Says}
+use Rattle.std.specs.Prelude.{None, Some}
 use Rattle.log_compare.proofs.Sides.{some-head, later, rest-later, body-taken, head-held, later-body, later-held, less-left, begins}
 use Rattle.log_compare.proofs.Sides.{Taken, take-body, take_head, take_whole, rest-on, short_on, no_more}
 use Rattle.log_compare.proofs.Cases.{Between, Over, alike-lefts, by-step}
@@ -183,7 +183,7 @@ Kept c a a' b b' r =
 
 -- the entry of two bodies under way, whose next parts are equal or not
 go-entry : (e t : Bool) (l : Entry) (d : List Entry)
-    → cond (not (e && t)) (l ∷ []) [] ++ d ≡ said_of (cond e Nothing (Says l)) ++ (cond (e && not t) (l ∷ []) [] ++ d)
+    → cond (not (e && t)) (l ∷ []) [] ++ d ≡ said_of (cond e None (Some l)) ++ (cond (e && not t) (l ∷ []) [] ++ d)
 unfolding said_of
 go-entry true t l d = refl
 go-entry false t l d = refl
@@ -191,7 +191,7 @@ go-entry false t l d = refl
 -- the entry of two records that begin
 begin_entry : (low high : Bool) (x y : List ℕ) (n i j : ℕ) (d : List Entry) → length x ≡ i → length y ≡ j
     → cond (low && (high && equal x y)) [] (Both n i j ∷ []) ++ d
-    ≡ said_of (cond ((low && high) && eqb i j) Nothing (Says (Both n i j)))
+    ≡ said_of (cond ((low && high) && eqb i j) None (Some (Both n i j)))
     ++ (cond ((((low && high) && eqb i j) && eqb i j) && not (equal x y)) (Both n i i ∷ []) [] ++ d)
 unfolding said_of
 begin_entry false high x y n i j d p q = refl
@@ -203,7 +203,7 @@ begin_entry true true x y n i j d p q = lengths (eqb i j) refl
     bodies false s = rw s
 
     lengths : (t : Bool) → eqb i j ≡ t → cond (equal x y) [] (Both n i j ∷ []) ++ d
-        ≡ said_of (cond t Nothing (Says (Both n i j))) ++ (cond ((t && t) && not (equal x y)) (Both n i i ∷ []) [] ++ d)
+        ≡ said_of (cond t None (Some (Both n i j))) ++ (cond ((t && t) && not (equal x y)) (Both n i i ∷ []) [] ++ d)
     lengths true e = bodies (equal x y) (eqb-true i j e)
     lengths false e = rw (other_length x y (λ k. eqb-false i j e (sym p ∙ k ∙ q)))
 
@@ -278,7 +278,7 @@ module _ (c : Standing) (a a' b b' : List ℕ) (short : length c.first.head < 6)
     unfolding following
     following-same = rw (later-body c.first k a a' short i f, later-body c.second k b b' short' j g)
 
-    go-says : to_say c (a ++ a') (b ++ b') ≡ said_of (cond equal_parts Nothing (Says entry)) ++ to_say gone (drop k a ++ a') (drop k b ++ b')
+    go-says : to_say c (a ++ a') (b ++ b') ≡ said_of (cond equal_parts None (Some entry)) ++ to_say gone (drop k a ++ a') (drop k b ++ b')
     go-says = rw (pending-before, pending_then, following-same) (go-entry equal_parts equal_rests entry _)
 
   kept-go : is_alike c ≡ true → Kept c a a' b b' (bodies_go_on c a b)
@@ -356,12 +356,12 @@ whole-none : is_whole 4 [] ≡ true
 unfolding is_whole whole_length log_of records_from
 whole-none = refl
 
-record None (u : UnderWay) : Type 0 where
+record AtEnd (u : UnderWay) : Type 0 where
   left : u.left ≡ 0
   behind : later u [] ≡ []
   rest : is_rest u [] ≡ true
 
-none : (u : UnderWay) → is_none u ≡ true → None u
+none : (u : UnderWay) → is_none u ≡ true → AtEnd u
 unfolding is_none later
 none u h =
     let e = (and-eq-true_iff (eqb u.left 0) (eqb (length u.head) 0)).0 h in

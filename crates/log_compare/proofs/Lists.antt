@@ -1,12 +1,12 @@
 -- The calls on lent logs, one after another until nothing is said: they say what differs, and they end. Assumes nothing.
 use Rattle.std.proofs.Common.{◌≡◌, ℕ, suc, ◌+◌, ◌-◌, ◌*◌, ◌%◌, ◌^◌, ◌<◌, ◌≤◌, Bool, true, false, List, [], ◌∷◌, ◌++◌, length, drop, sym, refl, ap, ◌∙◌, add-zero, arith, length-drop, drop-drop}
 use Rattle.logs.specs.Logs.{Stored, size, is_there, first_of, records}
-use Rattle.logs.proofs.Records.{there, more, last, body-length, by_record}
+use Rattle.logs.proofs.Walk.{there, more, last, body-length, by_record}
 use Rattle.log_compare.specs.Entries.{same, entries_from, entries_of}
 use Rattle.log_compare.specs.Places.{moved_to, bytes_in, find_from, next_of}
 use Rattle.log_compare.specs.Laws.{Lists, none, more as again, said_of, ListsAll, Ends, bytes_left}
 use Rattle.log_compare.specs.declared.Entry.{Entry}
-use Rattle.log_compare.specs.declared.Said.TheVariants.{Nothing, Says}
+use Rattle.std.specs.Prelude.{None, Some}
 use Rattle.log_compare.specs.declared.Place.{Place}
 use Rattle.log_compare.specs.declared.Found.{Found}
 
@@ -62,8 +62,8 @@ module _ (a b : List ℕ) where
     there : At f.next first second
     entries : Bound p.number rs qs → entries_from p.number rs qs ≡ said_of f.said ++ entries_from f.next.number first second
     bound : Bound p.number rs qs → Bound f.next.number first second
-    end : f.said ≡ Nothing → entries_from f.next.number first second ≡ []
-    less : (e : Entry) → f.said ≡ Says e → bytes_left f.next a b < bytes_left p a b
+    end : f.said ≡ None → entries_from f.next.number first second ≡ []
+    less : (e : Entry) → f.said ≡ Some e → bytes_left f.next a b < bytes_left p a b
 
   -- the place behind a record of the first log, of the second
   module _ (p : Place) where

@@ -3,7 +3,7 @@
 use Rattle.std.proofs.Common.{◌≡◌, ℕ, zero, suc, ◌+◌, ◌-◌, ◌%◌, ◌^◌, ◌<◌, ◌≤◌, Bool, true, false, cond, ltb, leb, List, [], ◌∷◌, ◌++◌, length, take, drop, sym, refl, ap, ◌∙◌, append_assoc, add-zero, arith, length-append, length-drop, take-append-drop, length-take-le, drop-drop, ltb-false, ltb-true, le-ltb, lt-ltb, ne_eqb, le-leb, leb-false, leb-true}
 use borrow.Author.Tests.{lt-leb}
 use Rattle.logs.specs.Logs.{claimed, size, is_there, whole_length, is_whole, read_log}
-use Rattle.logs.proofs.Records.{there, not_there, by_record}
+use Rattle.logs.proofs.Walk.{there, not_there, by_record}
 use Rattle.logs.proofs.Joined.{length_more, length_last}
 use Rattle.logs.proofs.Pieces.{same_number}
 use Rattle.log_compare.specs.Partial.{UnderWay, nothing, is_none, begun, takes, under_way}

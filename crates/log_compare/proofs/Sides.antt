@@ -7,7 +7,7 @@ use lib.Dec.{leb-zero}
 use lib.ListN.{get_or-append}
 use lib.Seq.{drop-append-le, drop-append-add}
 use Rattle.logs.specs.Logs.{Stored, claimed, size, is_there, first_of, records, whole_length, is_whole}
-use Rattle.logs.proofs.Records.{there, not_there, more, body-length}
+use Rattle.logs.proofs.Walk.{there, not_there, more, body-length}
 use Rattle.logs.proofs.Joined.{whole_length_lem, length_more, length_last}
 use Rattle.logs.proofs.Pieces.{same_number}
 use Rattle.log_compare.specs.Partial.{UnderWay, begun, takes}

@@ -5,10 +5,8 @@ use Rattle.keys.specs.Keys.{equal}
 use Rattle.logs.specs.Logs.{Stored, records, whole_length, is_whole}
 use Rattle.log_compare.specs.declared.Entry.{Entry}
 use Rattle.log_compare.specs.declared.Entry.TheVariants.{Both, First, Second}
-use Rattle.log_compare.specs.declared.Said.{Said}
-use Rattle.log_compare.specs.declared.Said.TheVariants.{Nothing, Says}
+use Rattle.std.specs.Prelude.{Option, None, Some}
 use Rattle.log_compare.specs.declared.Told.{Told}
-use Rattle.log_compare.specs.declared.Broken.{Broken}
 
 -- kind and body
 unfoldable pub content : Stored → List ℕ
@@ -28,7 +26,11 @@ unfoldable pub entries_of : List ℕ → List ℕ → List Entry
 entries_of a b = entries_from 1 (records 4 a) (records 4 b)
 
 -- a log that ends inside a record is refused, by its number and the place where that record starts; log 1's fault goes first
-unfoldable pub broken_of : List ℕ → List ℕ → Broken
+pub record Fault : Type 0 where
+  pub log : ℕ
+  pub place : ℕ
+
+unfoldable pub broken_of : List ℕ → List ℕ → Fault
 broken_of a b =
     cond (not (is_whole 4 a)) (record { log = 1; place = whole_length 4 a })
     (cond (not (is_whole 4 b)) (record { log = 2; place = whole_length 4 b })
@@ -41,6 +43,6 @@ entry_told (Both n a b) = record { logs = 3; number = n; first = a; second = b }
 entry_told (First n a) = record { logs = 1; number = n; first = a; second = 0 }
 entry_told (Second n b) = record { logs = 2; number = n; first = 0; second = b }
 
-unfoldable pub told_of : Said → Told
-told_of (Says e) = entry_told e
-told_of Nothing = record { logs = 0; number = 0; first = 0; second = 0 }
+unfoldable pub told_of : Option Entry → Told
+told_of (Some e) = entry_told e
+told_of None = record { logs = 0; number = 0; first = 0; second = 0 }

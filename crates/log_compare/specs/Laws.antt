@@ -11,8 +11,7 @@ use Rattle.log_compare.specs.Scan.{Scanned, unread, scan_of, scan_view}
 use Rattle.log_compare.specs.Steps.{Standing, Stepped, fresh, standing, is_end, step_of}
 use Rattle.log_compare.specs.Places.{first_place, next_of}
 use Rattle.log_compare.specs.declared.Entry.{Entry}
-use Rattle.log_compare.specs.declared.Said.{Said}
-use Rattle.log_compare.specs.declared.Said.TheVariants.{Nothing, Says}
+use Rattle.std.specs.Prelude.{Option, None, Some}
 use Rattle.log_compare.specs.declared.Place.{Place}
 
 -- ---- the list is empty exactly for equal logs
@@ -34,8 +33,8 @@ Finds = (log : List ℕ) → length log < 2 ^ 64 → read (scan_of (scan_view un
 -- ---- lent logs: the calls one after another, from a place until nothing is said, with the entries that they say
 
 pub data Lists (a b : List ℕ) : Place → List Entry → Type 0 where
-  none : (p : Place) → (next_of p a b).said ≡ Nothing → Lists a b p []
-  more : (p : Place) (e : Entry) {es : List Entry} → (next_of p a b).said ≡ Says e → Lists a b (next_of p a b).next es → Lists a b p (e ∷ es)
+  none : (p : Place) → (next_of p a b).said ≡ None → Lists a b p []
+  more : (p : Place) (e : Entry) {es : List Entry} → (next_of p a b).said ≡ Some e → Lists a b (next_of p a b).next es → Lists a b p (e ∷ es)
 
 abbrev pub ListsAll : Type 0
 ListsAll = (a b : List ℕ) (es : List Entry) → length a + length b < 2 ^ 64 → Lists a b first_place es → es ≡ entries_of a b
@@ -45,14 +44,14 @@ abbrev pub bytes_left : Place → List ℕ → List ℕ → ℕ
 bytes_left p a b = (length a - p.first) + (length b - p.second)
 
 abbrev pub Ends : Type 0
-Ends = (p : Place) (a b : List ℕ) (e : Entry) → (next_of p a b).said ≡ Says e → bytes_left (next_of p a b).next a b < bytes_left p a b
+Ends = (p : Place) (a b : List ℕ) (e : Entry) → (next_of p a b).said ≡ Some e → bytes_left (next_of p a b).next a b < bytes_left p a b
 
 -- ---- logs in pieces: steps one after another, whatever pieces are at hand in each, from a state and the bytes then left of both logs to their
 -- ends, with the entries that the steps say and the state at the end
 
-unfoldable pub said_of : Said → List Entry
-said_of Nothing = []
-said_of (Says e) = e ∷ []
+unfoldable pub said_of : Option Entry → List Entry
+said_of None = []
+said_of (Some e) = e ∷ []
 
 pub data Steps : Standing → List ℕ → List ℕ → List Entry → Standing → Type 0 where
   done : (c : Standing) → Steps c [] [] [] c

@@ -4,3 +4,4 @@ pub mod Scan
 pub mod Steps
 pub mod Places
 pub mod Laws
+pub mod Breaks

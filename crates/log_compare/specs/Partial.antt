@@ -1,6 +1,6 @@
 -- The record under way in a log that comes in pieces: the bytes of its head that came, fewer than six, and what is left of a body. No more of a
 -- record is held. These are definitions: they assume nothing.
-use Rattle.std.specs.Prelude.{ℕ, ◌-◌, ◌%◌, Bool, cond, ◌&&◌, List, [], ◌++◌, length, take, ◌==◌, nat_le, nat_lt, slice_index}
+use Rattle.std.specs.Prelude.{ℕ, ◌-◌, ◌%◌, Bool, cond, ◌&&◌, List, [], ◌++◌, length, take, ◌==◌, nat_le, nat_lt, slice_index, Option, Some, None}
 use Rattle.logs.specs.Logs.{claimed}
 use Rattle.log_compare.specs.declared.Head.{Head}
 use Rattle.log_compare.specs.declared.Partial.{Partial}
@@ -18,6 +18,10 @@ is_none u = u.left == 0 && length u.head == 0
 -- what a head tells
 unfoldable pub head_of : List ℕ → Head
 head_of s = record { length = claimed 4 s; low = slice_index s 4; high = slice_index s 5 }
+
+-- the head in front of some bytes, if it is whole
+unfoldable pub head_in : List ℕ → Option Head
+head_in s = cond (nat_le 6 (length s)) (Some (head_of s)) None
 
 -- a head of six bytes is whole: its body begins
 unfoldable pub begun : List ℕ → UnderWay

@@ -5,7 +5,7 @@ use Rattle.logs.specs.Logs.{Stored, records}
 use Rattle.log_compare.specs.Entries.{same}
 use Rattle.log_compare.specs.declared.Entry.{Entry}
 use Rattle.log_compare.specs.declared.Entry.TheVariants.{Both, First, Second}
-use Rattle.log_compare.specs.declared.Said.TheVariants.{Nothing, Says}
+use Rattle.std.specs.Prelude.{None, Some}
 use Rattle.log_compare.specs.declared.Place.{Place}
 use Rattle.log_compare.specs.declared.Found.{Found}
 
@@ -26,11 +26,11 @@ unfoldable pub bytes_in : Stored → ℕ
 bytes_in r = 6 + length r.body
 
 abbrev pub found : Entry → Place → Found
-found e p = record { said = Says e; next = p }
+found e p = record { said = Some e; next = p }
 
 -- the next entry of these records
 unfoldable pub find_from : Place → List Stored → List Stored → Found
-find_from p [] [] = record { said = Nothing; next = p }
+find_from p [] [] = record { said = None; next = p }
 find_from p (r ∷ rs) [] = found (First p.number (length r.body)) (past p (bytes_in r) 0)
 find_from p [] (q ∷ qs) = found (Second p.number (length q.body)) (past p 0 (bytes_in q))
 find_from p (r ∷ rs) (q ∷ qs) =

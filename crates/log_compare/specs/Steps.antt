@@ -4,9 +4,9 @@ use Rattle.std.specs.Prelude.{ℕ, ◌+◌, ◌-◌, ◌%◌, ◌^◌, min, Bool
 use Rattle.keys.specs.Keys.{equal}
 use Rattle.logs.specs.Logs.{claimed}
 use Rattle.log_compare.specs.Partial.{UnderWay, is_none, takes, under_way}
+use Rattle.log_compare.specs.declared.Entry.{Entry}
 use Rattle.log_compare.specs.declared.Entry.TheVariants.{Both, First, Second}
-use Rattle.log_compare.specs.declared.Said.{Said}
-use Rattle.log_compare.specs.declared.Said.TheVariants.{Nothing, Says}
+use Rattle.std.specs.Prelude.{Option, None, Some}
 use Rattle.log_compare.specs.declared.Comparing.{Comparing}
 use Rattle.log_compare.specs.declared.Step.{Step}
 
@@ -33,7 +33,7 @@ pub record Stepped : Type 0 where
   pub state : Standing
   pub first : ℕ
   pub second : ℕ
-  pub said : Said
+  pub said : Option Entry
 
 -- ---- a step, with the pieces a and b at hand
 
@@ -42,7 +42,7 @@ abbrev pub lacks : UnderWay → ℕ
 lacks u = 6 - length u.head
 
 -- these bytes are taken of each log
-unfoldable pub took : Standing → List ℕ → List ℕ → ℕ → ℕ → Bool → Said → Stepped
+unfoldable pub took : Standing → List ℕ → List ℕ → ℕ → ℕ → Bool → Option Entry → Stepped
 took c x y number size alike said = record {
   state = record { number = number; length = size; alike = alike; first = takes c.first x; second = takes c.second y };
   first = length x;
@@ -52,7 +52,7 @@ took c x y number size alike said = record {
 
 module _ (c : Standing) (a b : List ℕ) where
   -- j bytes of one piece and k of the other are taken
-  unfoldable pub moved : ℕ → ℕ → Bool → ℕ → ℕ → Said → Stepped
+  unfoldable pub moved : ℕ → ℕ → Bool → ℕ → ℕ → Option Entry → Stepped
   moved number size alike j k said = record {
     state = record { number = number; length = size; alike = alike; first = takes c.first (take j a); second = takes c.second (take k b) };
     first = j;
@@ -75,30 +75,30 @@ module _ (c : Standing) (a b : List ℕ) where
   both_begin =
       let e = (slice_index one 4 == slice_index two 4 && slice_index one 5 == slice_index two 5) && nat_eq (claimed 4 one) (claimed 4 two) in
       moved next_number (claimed 4 one) e (lacks c.first) (lacks c.second)
-      (cond e Nothing (Says (Both next_number (claimed 4 one) (claimed 4 two))))
+      (cond e None (Some (Both next_number (claimed 4 one) (claimed 4 two))))
 
   -- one of them alone has it
   unfoldable pub first_begins : Stepped
-  first_begins = moved next_number (claimed 4 one) false (lacks c.first) 0 (Says (First next_number (claimed 4 one)))
+  first_begins = moved next_number (claimed 4 one) false (lacks c.first) 0 (Some (First next_number (claimed 4 one)))
 
   unfoldable pub second_begins : Stepped
-  second_begins = moved next_number (claimed 4 two) false 0 (lacks c.second) (Says (Second next_number (claimed 4 two)))
+  second_begins = moved next_number (claimed 4 two) false 0 (lacks c.second) (Some (Second next_number (claimed 4 two)))
 
   -- the next heads are not at hand yet: of each at most five bytes are held, so that the record begins with a byte that is taken
   unfoldable pub heads_wait : Stepped
   heads_wait =
-      moved c.number c.length c.alike (min (5 - length c.first.head) (length a)) (min (5 - length c.second.head) (length b)) Nothing
+      moved c.number c.length c.alike (min (5 - length c.first.head) (length a)) (min (5 - length c.second.head) (length b)) None
 
   -- both bodies go on: as many bytes are compared as are at hand of both
   unfoldable pub bodies_go_on : Stepped
   bodies_go_on =
       let k = min c.first.left (min (length a) (length b)) in
       let e = equal (take k a) (take k b) in
-      moved c.number c.length e k k (cond e Nothing (Says (Both c.number c.length c.length)))
+      moved c.number c.length e k k (cond e None (Some (Both c.number c.length c.length)))
 
   -- bodies that are known to differ, or one that is alone, are passed over
   unfoldable pub bodies_pass : Stepped
-  bodies_pass = moved c.number c.length false (min c.first.left (length a)) (min c.second.left (length b)) Nothing
+  bodies_pass = moved c.number c.length false (min c.first.left (length a)) (min c.second.left (length b)) None
 
 -- no body is under way
 unfoldable pub is_between : Standing → Bool

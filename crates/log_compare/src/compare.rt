@@ -1,22 +1,19 @@
 // Two logs that come in pieces, compared.
-ghost use Rattle.std.specs.Prelude.{◌≡◌, ◌-◌, ◌≤◌, length, ◌==◌};
-ghost use Rattle.log_compare.specs.Partial.{under_way};
-ghost use Rattle.log_compare.specs.Steps.{fresh, standing, stepped, lacks, took, both_begin, first_begins, second_begins, heads_wait, heads_of, bodies_go_on, bodies_of, is_end, step_of};
+ghost use Rattle.std.specs.Prelude.{◌≡◌, ◌+◌, ◌%◌, ◌^◌, cond, ◌==◌, Some, None};
+ghost use Rattle.log_compare.specs.Steps.{fresh, standing, stepped, took, heads_of, bodies_go_on, bodies_of, is_end, step_of};
 
-use crate::{Comparing, Entry, Partial, Said, Step, heads};
+use crate::{Comparing, Entry, Partial, Piece, Step, heads};
 
 impl Comparing {
     // Before the first record.
     pub fn start() -> Comparing
         ensures { result ≡ fresh }
     {
-        let first = Partial::none();
-        let second = Partial::none();
         Comparing {
             number: 0,
             length: 0,
-            first,
-            second,
+            first: Partial::none(),
+            second: Partial::none(),
             alike: 0,
         }
     }
@@ -25,144 +22,106 @@ impl Comparing {
     pub fn is_end(self) -> bool
         ensures { result ≡ is_end (standing self) }
     {
-        self.first.is_none() & self.second.is_none()
+        self.first.is_none() && self.second.is_none()
     }
 
-    // One step with the pieces a and b at hand of the two logs; a_last and b_last say that nothing follows them.
-    pub fn step(self, a: &[u8], a_last: bool, b: &[u8], b_last: bool) -> Step
-        ensures { stepped result ≡ step_of (standing self) a.now a_last b.now b_last }
+    // One step with the pieces a and b at hand of the two logs.
+    pub fn step(self, a: Piece, b: Piece) -> Step
+        ensures { stepped result ≡ step_of (standing self) a.entry.bytes.now a.entry.is_last b.entry.bytes.now b.entry.is_last }
     {
-        if (self.first.left == 0) & (self.second.left == 0) {
-            return self.heads(a, a_last, b, b_last);
+        if self.first.left == 0 && self.second.left == 0 {
+            self.heads(a, b)
+        } else {
+            self.bodies(a.bytes, b.bytes)
         }
-        self.bodies(a, b)
     }
 
-    // No body is under way.
-    fn heads(self, a: &[u8], a_last: bool, b: &[u8], b_last: bool) -> Step
-        ensures { stepped result ≡ heads_of (standing self) a.now a_last b.now b_last }
+    // No body is under way: a record begins in both logs, or in one where the other has no more, or the heads are not at hand yet.
+    fn heads(self, a: Piece, b: Piece) -> Step
+        ensures { stepped result ≡ heads_of (standing self) a.entry.bytes.now a.entry.is_last b.entry.bytes.now b.entry.is_last }
     {
-        let one = self.first.missing() <= a.len();
-        let two = self.second.missing() <= b.len();
-        if one & two {
-            return self.both_begin(a, b);
+        let x = self.first.wanted(a.bytes);
+        let y = self.second.wanted(b.bytes);
+        match (self.first.head_at(a.bytes), self.second.head_at(b.bytes)) {
+            (Some(one), Some(two)) => {
+                let next = self.begins(one.length);
+                let entry = Entry::Both(next.number, one.length, two.length);
+                next.compared(one == two, entry, x, y)
+            }
+            (Some(one), None) if self.second.is_over(b) => {
+                let next = self.begins(one.length);
+                next.compared(false, Entry::First(next.number, one.length), x, &[])
+            }
+            (None, Some(two)) if self.first.is_over(a) => {
+                let next = self.begins(two.length);
+                next.compared(false, Entry::Second(next.number, two.length), &[], y)
+            }
+            _ => self.taking(
+                self.first.waiting(a.bytes),
+                self.second.waiting(b.bytes),
+                None,
+            ),
         }
-        if one & self.second.is_over(b, b_last) {
-            return self.first_begins(a, b);
+    }
+
+    // The next record, with a body of this length.
+    fn begins(self, length: u64) -> Comparing
+        ensures { result ≡ record self { number = (self.number + 1) % 2 ^ 64; length = length } }
+    {
+        Comparing {
+            number: self.number.wrapping_add(1),
+            length,
+            ..self
         }
-        if self.first.is_over(a, a_last) & two {
-            return self.second_begins(a, b);
-        }
-        self.heads_wait(a, b)
-    }
-
-    // Both logs have the next record.
-    fn both_begin(self, a: &[u8], b: &[u8]) -> Step
-        requires { (lacks (under_way self.first) ≤ length a.now) × (lacks (under_way self.second) ≤ length b.now) }
-        ensures { stepped result ≡ both_begin (standing self) a.now b.now }
-    {
-        let one = self.first.head_at(a);
-        let two = self.second.head_at(b);
-        let number = std::num::wrapping_add_u64(self.number, 1);
-        let x = keys::part(a, 0, self.first.missing());
-        let y = keys::part(b, 0, self.second.missing());
-        if (one.low == two.low) & (one.high == two.high) & (one.length == two.length) {
-            return self.moved(x, y, number, one.length, 1, Said::Nothing);
-        }
-        let entry = Entry::Both(number, one.length, two.length);
-        self.moved(x, y, number, one.length, 0, Said::Says(entry))
-    }
-
-    // The first log alone has it.
-    fn first_begins(self, a: &[u8], b: &[u8]) -> Step
-        requires { lacks (under_way self.first) ≤ length a.now }
-        ensures { stepped result ≡ first_begins (standing self) a.now b.now }
-    {
-        let one = self.first.head_at(a);
-        let number = std::num::wrapping_add_u64(self.number, 1);
-        let x = keys::part(a, 0, self.first.missing());
-        let entry = Entry::First(number, one.length);
-        self.moved(
-            x,
-            keys::part(b, 0, 0),
-            number,
-            one.length,
-            0,
-            Said::Says(entry),
-        )
-    }
-
-    // The second log alone has it.
-    fn second_begins(self, a: &[u8], b: &[u8]) -> Step
-        requires { lacks (under_way self.second) ≤ length b.now }
-        ensures { stepped result ≡ second_begins (standing self) a.now b.now }
-    {
-        let two = self.second.head_at(b);
-        let number = std::num::wrapping_add_u64(self.number, 1);
-        let y = keys::part(b, 0, self.second.missing());
-        let entry = Entry::Second(number, two.length);
-        self.moved(
-            keys::part(a, 0, 0),
-            y,
-            number,
-            two.length,
-            0,
-            Said::Says(entry),
-        )
-    }
-
-    // The next heads are not at hand yet.
-    fn heads_wait(self, a: &[u8], b: &[u8]) -> Step
-        ensures { stepped result ≡ heads_wait (standing self) a.now b.now }
-    {
-        let x = keys::part(a, 0, self.first.waiting(a));
-        let y = keys::part(b, 0, self.second.waiting(b));
-        self.moved(x, y, self.number, self.length, self.alike, Said::Nothing)
     }
 
     // A body is under way.
     fn bodies(self, a: &[u8], b: &[u8]) -> Step
         ensures { stepped result ≡ bodies_of (standing self) a.now b.now }
     {
-        if (self.alike == 1) & (self.first.left == self.second.left) {
+        if self.alike == 1 && self.first.left == self.second.left {
             return self.bodies_go_on(a, b);
         }
-        let x = keys::part(a, 0, heads::at_most(self.first.left, a));
-        let y = keys::part(b, 0, heads::at_most(self.second.left, b));
-        self.moved(x, y, self.number, self.length, 0, Said::Nothing)
+        let next = Comparing { alike: 0, ..self };
+        next.taking(self.first.body(a), self.second.body(b), None)
     }
 
     // Both bodies go on, alike so far.
     fn bodies_go_on(self, a: &[u8], b: &[u8]) -> Step
         ensures { stepped result ≡ bodies_go_on (standing self) a.now b.now }
     {
-        let n = heads::at_most(self.first.left, a);
-        let k = heads::at_most(n as u64, b);
-        let x = keys::part(a, 0, k);
-        let y = keys::part(b, 0, k);
-        if keys::same_key(x, y) {
-            return self.moved(x, y, self.number, self.length, 1, Said::Nothing);
-        }
+        let x = heads::front(self.first.body(a), b.len() as u64);
+        let y = heads::front(b, x.len() as u64);
         let entry = Entry::Both(self.number, self.length, self.length);
-        self.moved(x, y, self.number, self.length, 0, Said::Says(entry))
+        self.compared(keys::same_key(x, y), entry, x, y)
+    }
+
+    // These bytes are taken of each log. The record is still alike in both, or it is the entry's. It is inlined, as `taking` is, since a call
+    // would copy the whole state.
+    #[inline(always)]
+    fn compared(self, is_alike: bool, entry: Entry, x: &[u8], y: &[u8]) -> Step
+        ensures { stepped result ≡ took (standing self) x.now y.now self.number self.length is_alike (cond is_alike None (Some entry)) }
+    {
+        if is_alike {
+            return Comparing { alike: 1, ..self }.taking(x, y, None);
+        }
+        Comparing { alike: 0, ..self }.taking(x, y, Some(entry))
     }
 
     // These bytes are taken of each log.
-    fn moved(self, a: &[u8], b: &[u8], number: u64, length: u64, alike: u64, said: Said) -> Step
-        ensures { stepped result ≡ took (standing self) a.now b.now number length (alike == 1) said }
+    #[inline(always)]
+    fn taking(self, x: &[u8], y: &[u8], said: Option<Entry>) -> Step
+        ensures { stepped result ≡ took (standing self) x.now y.now self.number self.length (self.alike == 1) said }
     {
-        let first = self.first.taken(a);
-        let second = self.second.taken(b);
+        let state = Comparing {
+            first: self.first.taken(x),
+            second: self.second.taken(y),
+            ..self
+        };
         Step {
-            state: Comparing {
-                number,
-                length,
-                first,
-                second,
-                alike,
-            },
-            first: a.len(),
-            second: b.len(),
+            state,
+            first: x.len(),
+            second: y.len(),
             said,
         }
     }

@@ -1,20 +1,19 @@
 // The record under way in a log that comes in pieces. Its head has six bytes: the body's length in four, and two of kind.
-ghost use Rattle.std.specs.Prelude.{◌≡◌, ◌-◌, ◌%◌, ◌<◌, ◌≤◌, min, ◌++◌, length, replicate};
+ghost use Rattle.std.specs.Prelude.{◌≡◌, ◌-◌, ◌%◌, ◌<◌, ◌≤◌, min, ◌++◌, length, replicate, take};
 ghost use Rattle.buffer.specs.Bytes.{write};
 ghost use Rattle.logs.specs.Logs.{claimed};
-ghost use Rattle.log_compare.specs.Partial.{is_none, head_of, under_way, takes};
-ghost use Rattle.log_compare.specs.Steps.{is_over};
+ghost use Rattle.log_compare.specs.Partial.{is_none, head_in, under_way, takes};
+ghost use Rattle.log_compare.specs.Steps.{is_over, lacks};
 
-use crate::{Head, Partial};
+use crate::{Head, Partial, Piece};
 
 impl Partial {
     // None is under way.
     pub(crate) fn none() -> Partial
         ensures { result ≡ record { head = replicate 6 0; held = 0; left = 0 } }
     {
-        let head = [0u8; 6];
         Partial {
-            head,
+            head: [0; 6],
             held: 0,
             left: 0,
         }
@@ -24,28 +23,42 @@ impl Partial {
     pub(crate) fn is_none(self) -> bool
         ensures { result ≡ is_none (under_way self) }
     {
-        (self.left == 0) & (self.held % 6 == 0)
+        self.left == 0 && self.held % 6 == 0
     }
 
     // How many bytes of a head are missing.
     pub(crate) fn missing(self) -> usize
-        ensures { result ≡ 6 - length (under_way self).head }
+        ensures { result ≡ lacks (under_way self) }
     {
         6 - self.held % 6
     }
 
     // Whether nothing is at hand of a head, nor held of it, and nothing follows.
-    pub(crate) fn is_over(self, piece: &[u8], last: bool) -> bool
-        ensures { result ≡ is_over «last» ((under_way self).head ++ piece.now) }
+    pub(crate) fn is_over(self, piece: Piece) -> bool
+        ensures { result ≡ is_over piece.entry.is_last ((under_way self).head ++ piece.entry.bytes.now) }
     {
-        last & (self.held % 6 == 0) & (piece.len() == 0)
+        piece.is_last && self.held % 6 == 0 && piece.bytes.is_empty()
     }
 
-    // How many bytes of a piece are held, where a head cannot be whole yet: all but its last byte.
-    pub(crate) fn waiting(self, piece: &[u8]) -> usize
-        ensures { result ≡ min (5 - length (under_way self).head) (length piece.now) }
+    // The bytes of a piece that a head lacks, as far as there are any.
+    pub(crate) fn wanted(self, piece: &[u8]) -> &[u8]
+        ensures { result.now ≡ take (min (lacks (under_way self)) (length piece.now)) piece.now }
     {
-        at_most((self.missing() - 1) as u64, piece)
+        front(piece, self.missing() as u64)
+    }
+
+    // The bytes of a piece that are held, where a head cannot be whole yet: all but its last byte.
+    pub(crate) fn waiting(self, piece: &[u8]) -> &[u8]
+        ensures { result.now ≡ take (min (5 - length (under_way self).head) (length piece.now)) piece.now }
+    {
+        front(piece, (self.missing() - 1) as u64)
+    }
+
+    // The bytes of a piece that the body under way goes on with.
+    pub(crate) fn body(self, piece: &[u8]) -> &[u8]
+        ensures { result.now ≡ take (min self.left (length piece.now)) piece.now }
+    {
+        front(piece, self.left)
     }
 
     // The bytes held of the head, and more behind these, as far as six go.
@@ -57,17 +70,19 @@ impl Partial {
         head
     }
 
-    // The head that the bytes held and these make.
-    pub(crate) fn head_at(self, bytes: &[u8]) -> Head
-        requires { 6 - length (under_way self).head ≤ length bytes.now }
-        ensures { result ≡ head_of ((under_way self).head ++ bytes.now) }
+    // The head that the bytes held and these make, if it is whole.
+    pub(crate) fn head_at(self, bytes: &[u8]) -> Option<Head>
+        ensures { result ≡ head_in ((under_way self).head ++ bytes.now) }
     {
+        if bytes.len() < self.missing() {
+            return None;
+        }
         let head = self.joined(bytes);
-        Head {
-            length: claimed(&head),
+        Some(Head {
+            length: body_length(&head),
             low: head[4],
             high: head[5],
-        }
+        })
     }
 
     // What is under way when these bytes are taken.
@@ -75,7 +90,10 @@ impl Partial {
         ensures { under_way result ≡ takes (under_way self) bytes.now }
     {
         if 0 < self.left {
-            return self.shorter(bytes.len() as u64);
+            return Partial {
+                left: self.left.saturating_sub(bytes.len() as u64),
+                ..self
+            };
         }
         let head = self.joined(bytes);
         if bytes.len() < self.missing() {
@@ -88,45 +106,21 @@ impl Partial {
         Partial {
             head,
             held: 0,
-            left: claimed(&head),
-        }
-    }
-
-    // With so many bytes of the body less.
-    fn shorter(self, n: u64) -> Partial
-        ensures { result ≡ record { head = self.head; held = self.held; left = self.left - n } }
-    {
-        let head = self.head;
-        let mut left: u64 = 0;
-        if n < self.left {
-            left = self.left - n;
-        }
-        Partial {
-            head,
-            held: self.held,
-            left,
+            left: body_length(&head),
         }
     }
 }
 
 // The body's length that a head tells.
-pub(crate) fn claimed(head: &[u8]) -> u64
-    requires { 4 ≤ length head.now }
-    ensures { (result ≡ claimed 4 head.now) × (result < 4294967296) }
+fn body_length(head: &[u8; 6]) -> u64
+    ensures { result ≡ claimed 4 head.now }
 {
-    let a = head[0] as u64;
-    let b = head[1] as u64;
-    let c = head[2] as u64;
-    let d = head[3] as u64;
-    a + 256 * (b + 256 * (c + 256 * d))
+    u64::from(u32::from_le_bytes([head[0], head[1], head[2], head[3]]))
 }
 
-// The lesser of a number of bytes and those at hand.
-pub(crate) fn at_most(n: u64, bytes: &[u8]) -> usize
-    ensures { result ≡ min n (length bytes.now) }
+// The first n bytes, as far as there are any.
+pub(crate) fn front(bytes: &[u8], n: u64) -> &[u8]
+    ensures { result.now ≡ take (min n (length bytes.now)) bytes.now }
 {
-    if n < bytes.len() as u64 {
-        return n as usize;
-    }
-    bytes.len()
+    &bytes[..n.min(bytes.len() as u64) as usize]
 }

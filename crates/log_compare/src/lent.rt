@@ -1,32 +1,41 @@
 // Two lent logs, compared entry by entry.
-ghost use Rattle.std.specs.Prelude.{◌≡◌};
-ghost use Rattle.logs.specs.Steps.{end_of};
+ghost use Rattle.std.specs.Prelude.{◌≡◌, drop};
+ghost use Rattle.logs.specs.Steps.{IsFront};
 ghost use Rattle.log_compare.specs.Entries.{broken_of};
+ghost use Rattle.log_compare.specs.Breaks.{fault_of, break_of};
 ghost use Rattle.log_compare.specs.Places.{first_place, moved_to, found, next_of};
 
-use crate::{Broken, Entry, Found, Place, Said, Scanning, heads};
+use crate::{Broken, Entry, Found, Place, Scanning, Side};
+use logs::Records;
 
 impl Broken {
-    // The first of two logs that ends inside a record, and where.
-    pub fn of(first: &[u8], second: &[u8]) -> Broken
-        ensures { result ≡ broken_of first.now second.now }
+    // The first of two logs that ends inside a record, and where; none if both are whole.
+    pub fn of(first: &[u8], second: &[u8]) -> Option<Broken>
+        ensures { fault_of result ≡ broken_of first.now second.now }
     {
-        let one = Scanning::start().scan(first);
-        if one.start != one.place {
-            return Broken {
-                log: 1,
-                place: one.start,
-            };
+        if let Some(place) = break_in(first) {
+            return Some(Broken {
+                log: Side::First,
+                place,
+            });
         }
-        let two = Scanning::start().scan(second);
-        if two.start != two.place {
-            return Broken {
-                log: 2,
-                place: two.start,
-            };
-        }
-        Broken { log: 0, place: 0 }
+        let place = break_in(second)?;
+        Some(Broken {
+            log: Side::Second,
+            place,
+        })
     }
+}
+
+// Where a log ends inside a record, if it does.
+fn break_in(log: &[u8]) -> Option<u64>
+    ensures { result ≡ break_of log.now }
+{
+    let read = Scanning::start().scan(log);
+    if read.start == read.place {
+        return None;
+    }
+    Some(read.start)
 }
 
 impl Place {
@@ -46,30 +55,36 @@ impl Place {
         ensures { result ≡ next_of self first.now second.now }
     {
         let mut at = self;
-        let mut one = end_of(first, at.first);
-        let mut two = end_of(second, at.second);
-        while (at.first < one) & (at.second < two) {
-            let a = keys::part(first, at.first + 4, one);
-            let b = keys::part(second, at.second + 4, two);
-            if !keys::same_key(a, b) {
-                let entry = Entry::Both(at.number, (a.len() - 2) as u64, (b.len() - 2) as u64);
-                return at.moved_to(one, two).behind(entry);
+        // Stays a loop: either log may end first, and the answer has the place in each.
+        loop {
+            match (record_at(first, at.first), record_at(second, at.second)) {
+                (Some(a), Some(b)) => {
+                    let next = at.moved_to(at.first + a.len(), at.second + b.len());
+                    if !keys::same_key(&a[4..], &b[4..]) {
+                        let entry = Entry::Both(
+                            at.number,
+                            (a.len() - 6) as u64,
+                            (b.len() - 6) as u64,
+                        );
+                        return next.behind(entry);
+                    }
+                    at = next;
+                }
+                (Some(a), None) => {
+                    let entry = Entry::First(at.number, (a.len() - 6) as u64);
+                    return at.moved_to(at.first + a.len(), at.second).behind(entry);
+                }
+                (None, Some(b)) => {
+                    let entry = Entry::Second(at.number, (b.len() - 6) as u64);
+                    return at.moved_to(at.first, at.second + b.len()).behind(entry);
+                }
+                (None, None) => {
+                    return Found {
+                        said: None,
+                        next: at,
+                    };
+                }
             }
-            at = at.moved_to(one, two);
-            one = end_of(first, at.first);
-            two = end_of(second, at.second);
-        }
-        if at.first < one {
-            let entry = Entry::First(at.number, (one - at.first - 6) as u64);
-            return at.moved_to(one, two).behind(entry);
-        }
-        if at.second < two {
-            let entry = Entry::Second(at.number, (two - at.second - 6) as u64);
-            return at.moved_to(one, two).behind(entry);
-        }
-        Found {
-            said: Said::Nothing,
-            next: at,
         }
     }
 
@@ -78,7 +93,7 @@ impl Place {
         ensures { result ≡ moved_to self one two }
     {
         Place {
-            number: std::num::wrapping_add_u64(self.number, 1),
+            number: self.number.wrapping_add(1),
             first: one,
             second: two,
         }
@@ -89,23 +104,15 @@ impl Place {
         ensures { result ≡ found entry self }
     {
         Found {
-            said: Said::Says(entry),
+            said: Some(entry),
             next: self,
         }
     }
 }
 
-// Where the record that starts at a place ends; the place itself if it is not all there.
-fn end_of(log: &[u8], at: usize) -> usize
-    ensures { result ≡ end_of 4 log.now at }
+// The bytes of the record that starts at a place, if it is all there.
+fn record_at(log: &[u8], at: usize) -> Option<&[u8]>
+    ensures { IsFront 4 (drop at log.now) result }
 {
-    let rest = keys::part(log, at, log.len());
-    if rest.len() < 6 {
-        return at;
-    }
-    let n = heads::claimed(rest);
-    if ((rest.len() - 6) as u64) < n {
-        return at;
-    }
-    at + 6 + n as usize
+    Records::<4>::of(keys::part(log, at, log.len())).next()
 }

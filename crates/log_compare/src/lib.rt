@@ -9,31 +9,45 @@ mod scan;
 
 ghost use Rattle.std.specs.Prelude.{◌≡◌};
 ghost use Rattle.log_compare.specs.Entries.{entry_told, told_of};
+ghost use Rattle.log_compare.specs.Breaks.{side_number};
 
 // A record that is not the same in the two logs, by its number, from 1 on: one that both have, with the length of each body; or one that only
 // the first log has, or only the second, with its body's length.
-#[derive(Clone, Copy)]
+#[derive(Clone, Copy, PartialEq, Eq)]
 pub enum Entry {
     Both(u64, u64, u64),
     First(u64, u64),
     Second(u64, u64),
 }
 
-// What is said: an entry, or nothing.
-#[derive(Clone, Copy)]
-pub enum Said {
-    Nothing,
-    Says(Entry),
+// One of the two logs.
+#[derive(Clone, Copy, PartialEq, Eq)]
+pub enum Side {
+    First,
+    Second,
 }
 
-// The first log that ends inside a record, 1 or 2, and the place, from 0, where that record starts; 0 and 0 if both are whole.
-#[derive(Clone, Copy)]
+// Log 1 or log 2.
+impl From<Side> for u32 {
+    ghost from_gives = { λ side number. number ≡ side_number side };
+
+    fn from(side: Side) -> u32 {
+        match side {
+            Side::First => 1,
+            Side::Second => 2,
+        }
+    }
+}
+
+// The first log that ends inside a record, and the place, from 0, where that record starts.
+#[derive(Clone, Copy, PartialEq, Eq)]
 pub struct Broken {
-    pub log: u32,
+    pub log: Side,
     pub place: u64,
 }
 
 // Where a comparison of lent logs stands: the number of the next record, and where it starts in each log.
+// Stays `first` and `second`, here and below: C has these fields by their names.
 #[derive(Clone, Copy)]
 pub struct Place {
     pub number: u64,
@@ -41,15 +55,16 @@ pub struct Place {
     pub second: usize,
 }
 
-// What is said from a place on, and the place behind that record.
+// The entry from a place on, if there is one, and the place behind its record.
 #[derive(Clone, Copy)]
 pub struct Found {
-    pub said: Said,
+    pub said: Option<Entry>,
     pub next: Place,
 }
 
 // The record under way in a log that comes in pieces: the bytes of its head that came so far, the first `held % 6` of `head`, and what is
 // left of a body.
+// Stays an array and a count: C has this struct.
 #[repr(C)]
 #[derive(Clone, Copy)]
 pub struct Partial {
@@ -59,7 +74,7 @@ pub struct Partial {
 }
 
 // A record's head: the body's length, and the bytes of the kind.
-#[derive(Clone, Copy)]
+#[derive(Clone, Copy, PartialEq, Eq)]
 struct Head {
     length: u64,
     low: u8,
@@ -77,6 +92,7 @@ pub struct Scanning {
 
 // Where a comparison of logs in pieces stands: the number of the record under way, the length of its body, what is under way in each log, and
 // whether the bodies are still to be compared, 1 for yes: then they have one length, and are alike so far.
+// Stays a number, `alike`: C has this struct, and any bytes are one.
 #[repr(C)]
 #[derive(Clone, Copy)]
 pub struct Comparing {
@@ -87,18 +103,26 @@ pub struct Comparing {
     pub alike: u64,
 }
 
-// Where it then stands, the bytes taken of each piece, and what is said.
+// A piece of a log that is at hand, and whether nothing follows it.
+#[derive(Clone, Copy)]
+pub struct Piece<'a> {
+    pub bytes: &'a [u8],
+    pub is_last: bool,
+}
+
+// Where it then stands, the bytes taken of each piece, and the entry, if there is one.
 #[derive(Clone, Copy)]
 pub struct Step {
     pub state: Comparing,
     pub first: usize,
     pub second: usize,
-    pub said: Said,
+    pub said: Option<Entry>,
 }
 
-// What is said, in numbers: which logs have the record, 1 the first, 2 the second, 3 both, and 0 for nothing; the record's number; and the
-// body's length in each log, 0 where it has none.
-#[derive(Clone, Copy)]
+// An entry in numbers: which logs have the record, 1 the first, 2 the second, 3 both, and 0 for no entry; the record's number; and the body's
+// length in each log, 0 where it has none.
+// Stays numbers: C reads them.
+#[derive(Clone, Copy, Default)]
 pub struct Told {
     pub logs: u32,
     pub number: u64,
@@ -106,33 +130,39 @@ pub struct Told {
     pub second: u64,
 }
 
+impl From<Entry> for Told {
+    ghost from_gives = { λ entry told. told ≡ entry_told entry };
+
+    fn from(entry: Entry) -> Told {
+        match entry {
+            Entry::Both(number, first, second) => Told {
+                logs: 3,
+                number,
+                first,
+                second,
+            },
+            Entry::First(number, first) => Told {
+                logs: 1,
+                number,
+                first,
+                second: 0,
+            },
+            Entry::Second(number, second) => Told {
+                logs: 2,
+                number,
+                first: 0,
+                second,
+            },
+        }
+    }
+}
+
 // What is said, in numbers.
-pub fn tell(said: Said) -> Told
+pub fn tell(said: Option<Entry>) -> Told
     ensures { result ≡ told_of said }
 {
     match said {
-        Said::Says(entry) => tell_entry(entry),
-        Said::Nothing => in_numbers(0, 0, 0, 0),
-    }
-}
-
-fn tell_entry(entry: Entry) -> Told
-    ensures { result ≡ entry_told entry }
-{
-    match entry {
-        Entry::Both(number, first, second) => in_numbers(3, number, first, second),
-        Entry::First(number, first) => in_numbers(1, number, first, 0),
-        Entry::Second(number, second) => in_numbers(2, number, 0, second),
-    }
-}
-
-fn in_numbers(logs: u32, number: u64, first: u64, second: u64) -> Told
-    ensures { result ≡ record { logs = logs; number = number; first = first; second = second } }
-{
-    Told {
-        logs,
-        number,
-        first,
-        second,
+        Some(entry) => Told::from(entry),
+        None => Told::default(),
     }
 }

@@ -3,16 +3,15 @@ ghost use Rattle.std.specs.Prelude.{◌≡◌};
 ghost use Rattle.log_compare.specs.Partial.{under_way};
 ghost use Rattle.log_compare.specs.Scan.{unread, scan_view, settled, reach_of, scan_of};
 
-use crate::{Partial, Scanning, heads};
+use crate::{Partial, Scanning};
 
 impl Scanning {
     // Before the first byte.
     pub fn start() -> Scanning
         ensures { result ≡ unread }
     {
-        let under = Partial::none();
         Scanning {
-            under,
+            under: Partial::none(),
             start: 0,
             place: 0,
         }
@@ -23,11 +22,13 @@ impl Scanning {
         ensures { scan_view result ≡ scan_of (scan_view self) piece.now }
     {
         let mut s = self;
-        let mut at: usize = 0;
-        while at < piece.len() {
-            let n = heads::at_most(s.reach(), &piece[at..]);
-            s = s.settled(keys::part(piece, at, at + n));
-            at += n;
+        let mut rest = piece;
+        // Stays a loop: how many bytes a turn takes follows from what is then under way.
+        while !rest.is_empty() {
+            let n = s.reach().min(rest.len() as u64) as usize;
+            let (bytes, behind) = rest.split_at(n);
+            s = s.settled(bytes);
+            rest = behind;
         }
         s
     }
@@ -37,9 +38,10 @@ impl Scanning {
         ensures { result ≡ reach_of (under_way self.under) }
     {
         if 0 < self.under.left {
-            return self.under.left;
+            self.under.left
+        } else {
+            self.under.missing() as u64
         }
-        self.under.missing() as u64
     }
 
     // With these bytes taken: behind a record that they end, the next one starts.
@@ -47,11 +49,8 @@ impl Scanning {
         ensures { scan_view result ≡ settled (scan_view self) bytes.now }
     {
         let under = self.under.taken(bytes);
-        let place = std::num::wrapping_add_u64(self.place, bytes.len() as u64);
-        let mut start = self.start;
-        if under.is_none() {
-            start = place;
-        }
+        let place = self.place.wrapping_add(bytes.len() as u64);
+        let start = if under.is_none() { place } else { self.start };
         Scanning {
             under,
             start,

@@ -1,21 +1,25 @@
 -- What a step makes of a run. Assumes nothing.
-use Rattle.std.proofs.Common.{◌≡◌, ℕ, ◌+◌, ◌-◌, ◌<◌, ◌≤◌, min, Bool, true, false, eqb, leb, List, length, take, drop, sym, refl, ap, ◌∙◌, inl, inr, ⊎_elim, arith, length-append, drop_of_length-le, length-take, drop-drop, leb-false, leb-true}
-use Rattle.buffer.specs.Bytes.{write}
+use Rattle.std.proofs.Common.{◌≡◌, ℕ, ◌+◌, ◌-◌, ◌<◌, ◌≤◌, min, Bool, true, false, eqb, leb, Option, Some, None, List, [], length, take, drop, ◌++◌, sym, refl, ap, ◌∙◌, inl, inr, ⊎_elim, arith, length-append, drop_of_length-le, length-take, drop-drop, leb-false, leb-true, take_all, append-nil, Result, Ok, Err, IfOk}
 use Rattle.buffer.proofs.WriteLaws.{take_of_drop}
 use Rattle.keys.specs.Keys.{part}
-use Rattle.text.specs.Text.{Added}
+use Rattle.text.specs.Text.{appended}
 use Rattle.text.proofs.Texts.{decimal_length}
 use Rattle.log_compare.specs.Steps as Steps
 use Rattle.log_compare.specs.Steps.{standing, stepped, step_of}
 use Rattle.log_compare.specs.declared.Entry.{Entry}
 use Rattle.log_compare.specs.declared.Entry.TheVariants.{Both, First, Second}
-use Rattle.log_compare.specs.declared.Said.{Said}
-use Rattle.log_compare.specs.declared.Said.TheVariants.{Nothing, Says}
 use Rattle.log_compare.specs.declared.Step.{Step}
-use Rattle.logdiff.specs.Lines.{both_of, first_of, second_of, line_of, lines_of}
-use Rattle.logdiff.specs.Turns.{room_length, Within, at_hand, passed, Sound, Kept, step_in, Stepped}
+use Rattle.logdiff.specs.Lines.{length_of, record_of, line_of, lines_of}
+use Rattle.logdiff.specs.Sizes.{room_length}
+use Rattle.logdiff.specs.Turns.{at_hand, Filled, Passed, Kept, step_in, Stepped, Turned}
 use Rattle.logdiff.specs.declared.window.Window.{Window}
 use Rattle.logdiff.specs.declared.compare.Run.{Run}
+use Rattle.logdiff.specs.declared.compare.Rooms.{Rooms}
+
+-- ---- no text
+
+pub nothing : (n : ℕ) (line : List ℕ) → length line ≤ n → line ≡ appended n line []
+nothing n line h = sym (rw (append-nil line) (take_all n line h))
 
 -- ---- what is at hand behind bytes that are taken
 
@@ -35,63 +39,64 @@ part-passed s a b n h = case (leb (a + n) b) refl
         let short : length (take (b - a) (drop a s)) ≤ n = omega (arith, length-take (b - a) (drop a s)) in
         rw m (sym (drop_of_length-le (take (b - a) (drop a s)) short))
 
-pub hand_passed : (s : List ℕ) (w : Window) (n : ℕ) → Within w → at_hand s (passed w n) ≡ drop n (at_hand s w)
+hand-passed : (s : List ℕ) (w r : Window) (n : ℕ) → Passed w n r → at_hand s r ≡ drop n (at_hand s w)
 unfolding at_hand
-hand_passed s w n h = part-passed s w.from w.to n h.ordered
-
-pub within-passed : (w : Window) (n : ℕ) → Within w → Within (passed w n)
-within-passed w n h = record { ordered = omega arith; inside = h.inside }
+hand-passed s w r n p = rw (p.from, p.to) (part-passed s w.from w.to n w.ordered)
 
 -- ---- a line has at most 63 bytes
 
+length-length : (a : Option ℕ) → length (length_of a) ≤ 21
+unfolding length_of
+length-length (Some n) = omega (arith, decimal_length n)
+length-length None = omega arith
+
+record-length : (n : ℕ) (a b : Option ℕ) → length (record_of n a b) ≤ 63
+unfolding record_of
+record-length n a b = simp length-append (omega (arith, decimal_length n, length-length a, length-length b))
+
 line-length : (e : Entry) → length (line_of e) ≤ 63
-unfolding line_of both_of first_of second_of
-line-length (Both n a b) = simp length-append (omega (arith, decimal_length n, decimal_length a, decimal_length b))
-line-length (First n a) = simp length-append (omega (arith, decimal_length n, decimal_length a))
-line-length (Second n b) = simp length-append (omega (arith, decimal_length n, decimal_length b))
+unfolding line_of
+line-length (Both n a b) = record-length n (Some a) (Some b)
+line-length (First n a) = record-length n (Some a) None
+line-length (Second n b) = record-length n None (Some b)
 
-pub lines_length : (said : Said) → length (lines_of said) ≤ 63
+lines-length : (said : Option Entry) → length (lines_of said) ≤ 63
 unfolding lines_of
-lines_length Nothing = omega arith
-lines_length (Says e) = line-length e
+lines-length None = omega arith
+lines-length (Some e) = line-length e
 
--- ---- a step: run goes to middle, and that to r where the output is written
+-- ---- a step: run goes to r
 
-module _ (run middle r : Run) (a b x y out out' : List ℕ) (one two : Bool) (s : Step) (sound : Sound run) (long : length out ≡ room_length)
-    (xs : x ≡ at_hand a run.first) (ends : one ≡ eqb run.first.left 0) (ys : y ≡ at_hand b run.second) (end : two ≡ eqb run.second.left 0)
+module _ (run r : Run) (rooms rooms' : Rooms) (x y mid : List ℕ) (one two : Bool) (s : Step)
+    (xs : x ≡ at_hand rooms.first run.first) (ends : one ≡ eqb run.first.left 0) (ys : y ≡ at_hand rooms.second run.second) (end : two ≡ eqb run.second.left 0)
     (e : stepped s ≡ step_of (standing run.state) x one y two)
-    (first : middle.first ≡ passed run.first s.first) (second : middle.second ≡ passed run.second s.second) (state : middle.state ≡ s.state)
-    (put : Added out run.held (lines_of s.said) out' middle.held) (kept : Kept middle r) where
-  same : stepped s ≡ step_in run a b
+    (a : rooms'.first ≡ rooms.first) (b : rooms'.second ≡ rooms.second)
+    (first : Passed run.first s.first r.first) (second : Passed run.second s.second r.second) (state : r.state ≡ s.state)
+    (kept : Kept rooms.out mid) (put : rooms'.out ≡ appended room_length mid (lines_of s.said)) where
+  same : stepped s ≡ step_in run rooms
   same = rw (← xs, ← ends, ← ys, ← end) e
 
-  sound-next : Sound r
-  sound-next = record {
-    first = rw (kept.first, first) (within-passed run.first s.first sound.first);
-    second = rw (kept.second, second) (within-passed run.second s.second sound.second);
-    line = kept.line;
-  }
-
-  said : s.said ≡ (step_in run a b).said
+  said : s.said ≡ (step_in run rooms).said
   unfolding stepped
   said = ap (λ (z : Steps.Stepped). z.said) same
 
-  behind : middle.held ≡ run.held + length (lines_of (step_in run a b).said)
-  behind = rw (← said) (omega (arith, put.next, lines_length s.said, sound.line))
+  fits : rooms'.out ≡ mid ++ lines_of (step_in run rooms).said
+  fits =
+      let k : length (mid ++ lines_of s.said) ≤ room_length = omega (arith, length-append mid (lines_of s.said), lines-length s.said, kept.line) in
+      put ∙ take_all room_length (mid ++ lines_of s.said) k ∙ rw said
 
-  stepped-next : Stepped run a b out r out'
+  pub next : Stepped run rooms r rooms'
   unfolding stepped
-  stepped-next = record {
-    state = ap standing (kept.state ∙ state) ∙ ap (λ (z : Steps.Stepped). z.state) same;
-    first =
-        ap (at_hand a) (kept.first ∙ first) ∙ hand_passed a run.first s.first sound.first
-        ∙ ap (λ (z : Steps.Stepped). drop z.first (at_hand a run.first)) same;
-    second =
-        ap (at_hand b) (kept.second ∙ second) ∙ hand_passed b run.second s.second sound.second
-        ∙ ap (λ (z : Steps.Stepped). drop z.second (at_hand b run.second)) same;
-    output = put.buffer ∙ ap (λ (z : Said). write out run.held (lines_of z)) said;
-    held = ⊎_elim (λ h. inl (h ∙ behind)) inr kept.held;
+  next = record {
+    state = ap standing state ∙ ap (λ (z : Steps.Stepped). z.state) same;
+    first = rw a (hand-passed rooms.first run.first r.first s.first first ∙ ap (λ (z : Steps.Stepped). drop z.first (at_hand rooms.first run.first)) same);
+    second = rw b (hand-passed rooms.second run.second r.second s.second second ∙ ap (λ (z : Steps.Stepped). drop z.second (at_hand rooms.second run.second)) same);
+    output = ⊎_elim (λ h. inl (fits ∙ rw h)) (λ h. inr (fits ∙ rw h)) kept.lines;
   }
 
-  pub next : {A : Type 0} → Sound r × (A → Stepped run a b out r out')
-  next = (sound-next, λ goes. stepped-next)
+-- a turn: the next pieces are read, and then run goes from middle on
+module _ (E : Type 0) (run middle : Run) (rooms read rooms' : Rooms) (state : middle.state ≡ run.state) (out : read.out ≡ rooms.out)
+    (first : Filled run.first rooms.first middle.first read.first) (second : Filled run.second rooms.second middle.second read.second) where
+  pub turned : (r : Result Run E) → IfOk r (λ x. Stepped middle read x rooms') → IfOk r (λ x. Turned run rooms x rooms')
+  turned (Ok x) s = record { middle = middle; read = read; state = state; out = out; first = first; second = second; step = s }
+  turned (Err e) s = s

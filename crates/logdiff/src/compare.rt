@@ -1,193 +1,178 @@
 // Two logs that were read through are read again, and compared.
-ghost use Rattle.std.specs.Prelude.{◌≡◌, ◌≤◌, true, false};
-ghost use Rattle.logdiff.specs.Turns.{room_length, Started, Sound, Stepped, Turned, Kept};
+ghost use Rattle.std.specs.Prelude.{◌≡◌, IfOk};
+ghost use Rattle.logdiff.specs.Turns.{Started, Kept, Stepped, Turned};
 
 use crate::through::Log;
 use crate::window::{ROOM, Room, Window};
 use crate::{lines, say};
-use log_compare::Comparing;
+use log_compare::{Comparing, Side, Step};
+use std::io::Print;
+use text::Line;
 
 // The output is written when fewer of its places are free than this: the longest line has 63 bytes.
 const LINE: usize = 64;
 
-// Where the comparison stands, what is at hand of each log, how many bytes of the output wait to be written, and whether it goes on.
+// Where the comparison stands, and what is at hand of each log.
 #[derive(Clone, Copy)]
 struct Run<'a> {
     state: Comparing,
     first: Window<'a>,
     second: Window<'a>,
-    held: usize,
-    is_going: bool,
 }
 
-// Compares the logs, and writes a line for each difference. A proved loop has to end, and nothing of the files says that it does. So the
-// loop counts its turns down, from a number that no run uses up.
-pub(crate) fn compare_all(rt: &HostRuntime, one: Log, two: Log, a: &mut Room, b: &mut Room) {
-    let mut out = [0u8; ROOM];
-    let mut run = start(&one, &two);
-    let mut turns = u64::MAX;
-    while turns > 0 {
-        if !run.is_going {
-            return;
+// The bytes of the logs that are at hand, and the output that waits to be written.
+#[derive(Drop)]
+struct Rooms {
+    first: Room,
+    second: Room,
+    out: Line<ROOM>,
+}
+
+// Why a comparison ends: both logs are compared to their ends; a log is another one than was read through; the output is not taken.
+#[derive(Clone, Copy, PartialEq, Eq)]
+enum End {
+    Over,
+    Changed(Side),
+    Unwritten,
+}
+
+// Compares the logs, and writes a line for each difference. A proved loop has to end, and nothing of the files says that it does: no run uses
+// up so many turns.
+pub(crate) fn compare_all(rt: &HostRuntime, one: &Log, two: &Log) {
+    let mut rooms = Rooms {
+        first: [0; ROOM],
+        second: [0; ROOM],
+        out: Line::new(),
+    };
+    let mut run = Run::start(one, two);
+    for _ in 0..u64::MAX {
+        match run.turn(rt, &mut rooms) {
+            Ok(next) => run = next,
+            Err(end) => return finish(rt, end, &mut rooms.out),
         }
-        run = run.turn(rt, a, b, &mut out);
-        turns -= 1;
     }
 }
 
-// At the front of both logs.
-fn start<'a>(one: &'a Log, two: &'a Log) -> Run<'a>
-    ensures { Started one.now two.now result }
-{
-    let state = Comparing::start();
-    let first = Window::start(one);
-    let second = Window::start(two);
-    Run {
-        state,
-        first,
-        second,
-        held: 0,
-        is_going: true,
+// The last of the output: it ends with the line that says which log changed, if one did.
+fn finish(rt: &HostRuntime, end: End, out: &mut Line<ROOM>) {
+    match end {
+        End::Over => say::tell(rt, out.as_slice()),
+        End::Changed(log) => {
+            if make_room(rt, out).is_err() {
+                return say::say_unwritten(rt);
+            }
+            lines::put_fault(b"changed", u64::from(u32::from(log)), out);
+            out.put(b"\n");
+            say::tell(rt, out.as_slice());
+        }
+        End::Unwritten => say::say_unwritten(rt),
     }
 }
 
 impl<'a> Run<'a> {
+    // At the front of both logs.
+    fn start(one: &'a Log, two: &'a Log) -> Run<'a>
+        ensures { Started one.now two.now result }
+    {
+        Run {
+            state: Comparing::start(),
+            first: Window::start(one),
+            second: Window::start(two),
+        }
+    }
+
     // Something of each log is at hand, or it is at its end: then a step is made. Where a read brings nothing of the bytes that are left, the
     // log changed.
-    fn turn(self, rt: &HostRuntime, a: &mut Room, b: &mut Room, out: &mut Room) -> Run<'a>
-        requires { Sound self }
-        ensures { (Sound result) × (result.is_going ≡ true → Turned self.entry a.old b.old out.old result a.new b.new out.new) }
+    fn turn(self, output: &impl Print, rooms: &mut Rooms) -> Result<Run<'a>, End>
+        ensures { IfOk result (λ run. Turned self.entry rooms.old run rooms.new) }
     {
-        let state = self.state;
-        let x = self.first;
-        let y = self.second;
-        let first = x.filled(a);
-        let second = y.filled(b);
+        let first = self.first.filled(&mut rooms.first);
+        let second = self.second.filled(&mut rooms.second);
         let run = Run {
-            state,
             first,
             second,
-            held: self.held,
-            is_going: true,
+            ..self
         };
         if first.is_dry() {
-            return run.changed(rt, 1, out);
+            return Err(End::Changed(Side::First));
         }
         if second.is_dry() {
-            return run.changed(rt, 2, out);
+            return Err(End::Changed(Side::Second));
         }
-        if first.is_empty() & second.is_empty() {
-            return run.at_end(rt, out);
+        if first.is_empty() && second.is_empty() {
+            return Err(run.at_end());
         }
-        run.stepped(rt, a, b, out)
+        run.stepped(output, rooms)
     }
 
     // A step with what is at hand. A line is put for what it says only where both logs can have what their heads claim.
-    fn stepped(self, rt: &HostRuntime, a: &Room, b: &Room, out: &mut Room) -> Run<'a>
-        requires { Sound self }
-        ensures { (Sound result) × (result.is_going ≡ true → Stepped self.entry a.now b.now out.old result out.new) }
+    fn stepped(self, output: &impl Print, rooms: &mut Rooms) -> Result<Run<'a>, End>
+        ensures { IfOk result (λ run. Stepped self.entry rooms.old run rooms.new) }
     {
-        let state = self.state;
-        let first = self.first;
-        let second = self.second;
-        let step = state.step(
-            first.at_hand(a),
-            first.is_last(),
-            second.at_hand(b),
-            second.is_last(),
+        let step = self.state.step(
+            self.first.piece(&rooms.first),
+            self.second.piece(&rooms.second),
         );
-        let next = step.state;
-        let log = self.other(next, step.first, step.second);
-        if log != 0 {
-            return self.changed(rt, log, out);
+        if let Some(log) = self.other(step) {
+            return Err(End::Changed(log));
         }
-        let said = step.said;
-        let run = Run {
-            state: next,
-            first: first.taken(step.first),
-            second: second.taken(step.second),
-            held: lines::put_said(said, out, self.held),
-            is_going: true,
-        };
-        run.with_room(rt, out)
-    }
-
-    // With the output written, where the next line may not fit.
-    fn with_room(self, rt: &HostRuntime, out: &Room) -> Run<'a>
-        requires { self.held ≤ room_length }
-        ensures { Kept self.entry result }
-    {
-        if self.held + LINE <= ROOM {
-            return self;
-        }
-        let mut next = self;
-        next.held = 0;
-        next.is_going = say::tell(rt, keys::part(&out[..], 0, self.held));
-        next
+        make_room(output, &mut rooms.out)?;
+        lines::put_said(step.said, &mut rooms.out);
+        Ok(Run {
+            state: step.state,
+            first: self.first.taken(step.first),
+            second: self.second.taken(step.second),
+        })
     }
 
     // Both logs are at their ends, which lie between records unless one changed.
-    fn at_end(self, rt: &HostRuntime, out: &mut Room) -> Run<'a>
-        requires { Sound self }
-        ensures { (Sound result) × (result.is_going ≡ false) }
-    {
-        let state = self.state;
-        if !state.is_end() {
-            return self.changed(rt, self.cut(), out);
+    fn at_end(self) -> End {
+        if self.state.is_end() {
+            End::Over
+        } else {
+            End::Changed(self.cut())
         }
-        self.over(rt, keys::part(&out[..], 0, self.held))
     }
 
-    // The log that is another one than was read through, as a step shows that takes so many bytes, or 0. With whole logs a step takes a
-    // byte, and a body is no longer than what is left of the log.
-    fn other(self, next: Comparing, j: usize, k: usize) -> usize
-        requires { Sound self }
-    {
-        if (j == 0) & (k == 0) {
-            return self.cut();
+    // The log that is another one than was read through, as a step shows. With whole logs a step takes a byte, and a body is no longer than
+    // what is left of the log.
+    fn other(self, step: Step) -> Option<Side> {
+        if step.first == 0 && step.second == 0 {
+            return Some(self.cut());
         }
-        let one = next.first;
-        let two = next.second;
-        let first = self.first;
-        let second = self.second;
-        if first.taken(j).is_short(one.left) {
-            return 1;
+        if self.first.taken(step.first).is_short(step.state.first.left) {
+            return Some(Side::First);
         }
-        if second.taken(k).is_short(two.left) {
-            return 2;
+        if self
+            .second
+            .taken(step.second)
+            .is_short(step.state.second.left)
+        {
+            return Some(Side::Second);
         }
-        0
+        None
     }
 
     // The log that ends inside a record, the first of the two if both do.
-    fn cut(self) -> usize {
-        let state = self.state;
-        let under = state.first;
-        let window = self.first;
-        if window.is_empty() & ((under.left != 0) | (under.held % 6 != 0)) {
-            return 1;
+    fn cut(self) -> Side {
+        let under = self.state.first;
+        if self.first.is_empty() && (under.left != 0 || under.held % 6 != 0) {
+            Side::First
+        } else {
+            Side::Second
         }
-        2
     }
+}
 
-    // The output ends with the line that says which log changed.
-    fn changed(self, rt: &HostRuntime, log: usize, out: &mut Room) -> Run<'a>
-        requires { Sound self }
-        ensures { (Sound result) × (result.is_going ≡ false) }
-    {
-        let end = lines::put_fault(b"changed", log, out, self.held);
-        let n = text::put(b"\n", out, end);
-        self.over(rt, keys::part(&out[..], 0, n))
+// Writes the output that waits, where the next line may not fit.
+fn make_room(output: &impl Print, out: &mut Line<ROOM>) -> Result<(), End>
+    ensures { IfOk result (λ _. Kept out.old out.new) }
+{
+    if ROOM < out.as_slice().len() + LINE {
+        output
+            .write_all(out.as_slice())
+            .map_err(|_| End::Unwritten)?;
+        out.clear();
     }
-
-    // With the last of the output written. Nothing more is compared.
-    fn over(self, rt: &HostRuntime, rest: &[u8]) -> Run<'a>
-        requires { Sound self }
-        ensures { (Sound result) × (result.is_going ≡ false) }
-    {
-        say::tell(rt, rest);
-        let mut next = self;
-        next.is_going = false;
-        next
-    }
+    Ok(())
 }

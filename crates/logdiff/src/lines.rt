@@ -1,70 +1,68 @@
-// The lines of the output, put together in a buffer. Each function puts its text at a place and answers the place behind it; what does not
-// fit is left out.
-ghost use Rattle.std.specs.Prelude.{◌∷◌};
-ghost use Rattle.text.specs.Text.{Added, decimal_of};
-ghost use Rattle.logdiff.specs.Lines.{fault_of, both_of, first_of, second_of, line_of, lines_of};
+// The lines of the output. What does not fit a line's room is left out.
+ghost use Rattle.std.specs.Prelude.{◌≡◌, ◌≤◌, ◌∷◌, length};
+ghost use Rattle.text.specs.Text.{appended, decimal_of};
+ghost use Rattle.logdiff.specs.Lines.{fault_of, length_of, record_of, line_of, lines_of};
 
-use log_compare::{Entry, Said};
+use log_compare::Entry;
+use text::Line;
 
 // The line of what is said, if anything is.
-pub(crate) fn put_said(said: Said, out: &mut [u8], at: usize) -> usize
-    ensures { Added out.old at (lines_of said) out.new result }
+#[tactic(auto, using(crate::proofs::Turning::nothing), unfolding(crate::specs::Lines::lines_of))]
+pub(crate) fn put_said<const N: usize>(said: Option<Entry>, line: &mut Line<N>)
+    requires { length line.old ≤ N }
+    ensures { line.new ≡ appended N line.old (lines_of said) }
 {
     match said {
-        Said::Says(entry) => put_entry(entry, out, at),
-        Said::Nothing => at,
+        Some(entry) => put_entry(entry, line),
+        None => {}
     }
 }
 
-// An entry's line. A log that lacks the record has a dash for the length.
-fn put_entry(entry: Entry, out: &mut [u8], at: usize) -> usize
-    ensures { Added out.old at (line_of entry) out.new result }
+// An entry's line.
+#[tactic(auto, unfolding(crate::specs::Lines::line_of))]
+fn put_entry<const N: usize>(entry: Entry, line: &mut Line<N>)
+    ensures { line.new ≡ appended N line.old (line_of entry) }
 {
     match entry {
-        Entry::Both(n, a, b) => put_both(n, a, b, out, at),
-        Entry::First(n, a) => put_first(n, a, out, at),
-        Entry::Second(n, b) => put_second(n, b, out, at),
+        Entry::Both(n, a, b) => put_record(n, Some(a), Some(b), line),
+        Entry::First(n, a) => put_record(n, Some(a), None, line),
+        Entry::Second(n, b) => put_record(n, None, Some(b), line),
     }
 }
 
-fn put_both(n: u64, a: u64, b: u64, out: &mut [u8], at: usize) -> usize
-    ensures { Added out.old at (both_of n a b) out.new result }
+// A record's number, and the length of its body in each log.
+fn put_record<const N: usize>(n: u64, first: Option<u64>, second: Option<u64>, line: &mut Line<N>)
+    ensures { line.new ≡ appended N line.old (record_of n first second) }
 {
-    let p = text::put_decimal(n, out, at);
-    let q = put_spaced(a, out, p);
-    let r = put_spaced(b, out, q);
-    text::put(b"\n", out, r)
+    line.put_decimal(n);
+    put_length(first, line);
+    put_length(second, line);
+    line.put(b"\n");
 }
 
-fn put_first(n: u64, a: u64, out: &mut [u8], at: usize) -> usize
-    ensures { Added out.old at (first_of n a) out.new result }
+// A space and a length, or a dash where the log lacks the record.
+#[tactic(auto, unfolding(crate::specs::Lines::length_of))]
+fn put_length<const N: usize>(length: Option<u64>, line: &mut Line<N>)
+    ensures { line.new ≡ appended N line.old (length_of length) }
 {
-    let p = text::put_decimal(n, out, at);
-    let q = put_spaced(a, out, p);
-    text::put(b" -\n", out, q)
-}
-
-fn put_second(n: u64, b: u64, out: &mut [u8], at: usize) -> usize
-    ensures { Added out.old at (second_of n b) out.new result }
-{
-    let p = text::put_decimal(n, out, at);
-    let q = text::put(b" -", out, p);
-    let r = put_spaced(b, out, q);
-    text::put(b"\n", out, r)
+    match length {
+        Some(n) => put_spaced(n, line),
+        None => line.put(b" -"),
+    }
 }
 
 // A space and a number.
-pub(crate) fn put_spaced(n: u64, out: &mut [u8], at: usize) -> usize
-    ensures { Added out.old at (32 ∷ decimal_of n) out.new result }
+pub(crate) fn put_spaced<const N: usize>(n: u64, line: &mut Line<N>)
+    ensures { line.new ≡ appended N line.old (32 ∷ decimal_of n) }
 {
-    let p = text::put(b" ", out, at);
-    text::put_decimal(n, out, p)
+    line.put(b" ");
+    line.put_decimal(n);
 }
 
 // What is wrong, and with which log.
-pub(crate) fn put_fault(word: &[u8], log: usize, out: &mut [u8], at: usize) -> usize
-    ensures { Added out.old at (fault_of word.now log) out.new result }
+pub(crate) fn put_fault<const N: usize>(word: &[u8], log: u64, line: &mut Line<N>)
+    ensures { line.new ≡ appended N line.old (fault_of word.now log) }
 {
-    let p = text::put(word, out, at);
-    put_spaced(log as u64, out, p)
+    line.put(word);
+    put_spaced(log, line);
 }

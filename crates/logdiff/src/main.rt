@@ -5,27 +5,23 @@
 
 mod compare;
 mod lines;
+mod pieces;
 mod say;
 mod through;
 mod window;
 
-use files::Source;
+use files::{Source, Word};
 use std::fs::OpenOptions;
-use through::Looked;
-use window::ROOM;
 
 fn main(rt: HostRuntime) {
-    let count = files::arg_count(&rt);
-    if 3 < count {
-        say::say_count(&rt, 3);
-        return;
+    match files::arg_count(&rt) {
+        2 if asks_help(&rt) => say::say_help(&rt),
+        count if 3 < count => say::say_count(&rt, 3),
+        count => {
+            keep_input(&rt);
+            compare_logs(&rt, count);
+        }
     }
-    if (count == 2) & asks_help(&rt) {
-        say::say_help(&rt);
-        return;
-    }
-    keep_input(&rt);
-    compare_logs(&rt, count);
 }
 
 // Keeps the number of standard input, where that is closed, from the first log that is opened: else - would be that log as well. What takes
@@ -40,22 +36,16 @@ fn keep_input(rt: &HostRuntime) {
 
 // Whether the first argument asks what the program does. Beside a second one it is a log's name.
 fn asks_help(rt: &HostRuntime) -> bool {
-    let mut word = [0u8; files::WORD];
-    match files::arg(rt, 1, &mut word) {
-        Ok(n) => keys::same_key(keys::part(&word, 0, n), b"--help"),
-        Err(_) => false,
-    }
+    Word::of(rt, 1).is_ok_and(|word| matches!(word.as_slice(), b"--help"))
 }
 
 // Reads one log through, then the other, and compares them.
 fn compare_logs(rt: &HostRuntime, count: usize) {
-    let mut a = [0u8; ROOM];
-    let mut b = [0u8; ROOM];
-    let Looked::Whole(one) = through::look(rt, 1, count, &mut a) else {
+    let Some(one) = through::look(rt, 1, count) else {
         return;
     };
-    let Looked::Whole(two) = through::look(rt, 2, count, &mut b) else {
+    let Some(two) = through::look(rt, 2, count) else {
         return;
     };
-    compare::compare_all(rt, one, two, &mut a, &mut b);
+    compare::compare_all(rt, &one, &two);
 }

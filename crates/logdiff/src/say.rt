@@ -1,52 +1,75 @@
 // Writes what is wrong with a log to standard output, in its one line, and what is said besides to standard error.
 use crate::lines;
+use files::Unread;
+use text::Line;
 
-// Writes that a log is broken, and the place, from 0, where the record starts that is not all there.
-pub(crate) fn say_broken(rt: &HostRuntime, log: usize, place: u64) {
-    let mut line = [0u8; 64];
-    let at = lines::put_fault(b"broken", log, &mut line, 0);
-    let end = lines::put_spaced(place, &mut line, at);
-    let n = text::put(b"\n", &mut line, end);
-    tell(rt, keys::part(&line, 0, n));
+// Room for each line on a fault.
+const ROOM: usize = 64;
+
+// Why a log is not compared: its argument is no name; it cannot be read; it ends inside a record, which starts at that
+// place, counted from 0.
+#[derive(Clone, Copy, Debug, PartialEq, Eq)]
+pub(crate) enum Fault {
+    Nameless(Unread),
+    Unread(Unread),
+    Broken(u64),
 }
 
-// Writes that a log cannot be read, and why: by its name, or by the argument's number where that is no name.
-pub(crate) fn say_unread(rt: &HostRuntime, log: usize, name: &[u8], error: i32) {
-    say_log(rt, log);
-    if name.len() == 0 {
-        files::say_nameless(&rt.stderr(), log, error);
-        return;
+impl From<Unread> for Fault {
+    fn from(error: Unread) -> Fault {
+        Fault::Unread(error)
     }
-    files::say_unread(&rt.stderr(), name, error);
+}
+
+// Writes what is wrong with a log: by its name, or by its argument's number where that is no name.
+// Stays a number, `log`: it is the argument's, which is written, and log 3 is one too many.
+pub(crate) fn say_fault(rt: &HostRuntime, log: usize, name: &[u8], fault: Fault) {
+    match fault {
+        Fault::Nameless(error) => {
+            say_log(rt, log);
+            files::say_nameless(&rt.stderr(), log, error);
+        }
+        Fault::Unread(error) => {
+            say_log(rt, log);
+            files::say_unread(&rt.stderr(), name, error);
+        }
+        Fault::Broken(place) => say_broken(rt, log, place),
+    }
+}
+
+// Writes that a log is broken, and the place where the record starts that is not all there.
+fn say_broken(rt: &HostRuntime, log: usize, place: u64) {
+    let mut line = Line::<ROOM>::new();
+    lines::put_fault(b"broken", log as u64, &mut line);
+    lines::put_spaced(place, &mut line);
+    line.put(b"\n");
+    tell(rt, line.as_slice());
 }
 
 // Writes that a log is missing, or is one too many.
 pub(crate) fn say_count(rt: &HostRuntime, log: usize) {
     say_log(rt, log);
-    say(
-        rt,
-        b"logdiff takes two logs; logdiff --help says what there is\n",
-    );
+    let _ = eprintln!(rt; "logdiff takes two logs; logdiff --help says what there is");
 }
 
+// Writes that a log cannot be read.
 fn say_log(rt: &HostRuntime, log: usize) {
-    let mut line = [0u8; 64];
-    let end = lines::put_fault(b"unread", log, &mut line, 0);
-    let n = text::put(b"\n", &mut line, end);
-    tell(rt, keys::part(&line, 0, n));
+    let mut line = Line::<ROOM>::new();
+    lines::put_fault(b"unread", log as u64, &mut line);
+    line.put(b"\n");
+    tell(rt, line.as_slice());
 }
 
-// Writes some lines to standard output, and answers whether they are taken. Where they are not, that is said.
-pub(crate) fn tell(rt: &HostRuntime, text: &[u8]) -> bool {
-    if files::write(&rt.stdout(), text) {
-        return true;
+// Writes some lines to standard output. Where they are not taken, that is said.
+pub(crate) fn tell(rt: &HostRuntime, text: &[u8]) {
+    if !files::write(&rt.stdout(), text) {
+        say_unwritten(rt);
     }
-    say(rt, b"the output cannot be written\n");
-    false
 }
 
-fn say(rt: &HostRuntime, text: &[u8]) {
-    files::write(&rt.stderr(), text);
+// Writes that standard output does not take the lines.
+pub(crate) fn say_unwritten(rt: &HostRuntime) {
+    let _ = eprintln!(rt; "the output cannot be written");
 }
 
 // Writes what the program does.

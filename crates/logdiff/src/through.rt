@@ -1,12 +1,12 @@
 // A log is opened and read through for a break, in pieces.
-ghost use Rattle.std.specs.Prelude.{◌≡◌};
-ghost use Rattle.keys.specs.Keys.{part};
+ghost use Rattle.std.specs.Prelude.{◌≡◌, take, IfOk};
 ghost use Rattle.log_compare.specs.Scan.{scan_view, scan_of};
 ghost use Rattle.logdiff.specs.Turns.{Judged};
 
-use crate::window::Room;
-use crate::{say, window};
-use files::Source;
+use crate::say::Fault;
+use crate::window::{ROOM, Room};
+use crate::{pieces, say};
+use files::{Source, Unread, Word};
 use log_compare::Scanning;
 use std::fs;
 use std::fs::File;
@@ -20,55 +20,49 @@ pub(crate) struct Log {
     pub(crate) length: u64,
 }
 
-// One, or none: what is at fault is said already.
-#[derive(Drop)]
-pub(crate) enum Looked {
-    Whole(Log),
-    Faulty,
-}
-
-// How far a log is read through; how many bytes the last read brought, to the front of the room; whether it failed, and then why, by errno's
-// number.
+// How far a log is read through, and how many bytes the last read brought, to the front of the room.
 #[derive(Clone, Copy)]
 struct Reading {
     scan: Scanning,
     held: usize,
-    failed: bool,
-    error: i32,
 }
 
-// Opens the log that an argument names, of so many with the program's own name, and reads it through.
-pub(crate) fn look(rt: &HostRuntime, log: usize, count: usize, room: &mut Room) -> Looked {
+// Opens the log that an argument names, of so many with the program's own name, and reads it through. What is at fault is said.
+// Stays a number, `log`: a `Side` would be turned into the argument's number again, and log 3, one too many, is said too.
+pub(crate) fn look(rt: &HostRuntime, log: usize, count: usize) -> Option<Log> {
     if count <= log {
         say::say_count(rt, log);
-        return Looked::Faulty;
+        return None;
     }
-    let mut word = [0u8; files::WORD];
-    match files::arg(rt, log, &mut word) {
-        Ok(n) => look_at(rt, log, keys::part(&word, 0, n), room),
+    match Word::of(rt, log) {
+        Ok(word) => look_at(rt, log, word.as_slice()),
         Err(error) => {
-            say::say_unread(rt, log, b"", error);
-            Looked::Faulty
+            say::say_fault(rt, log, b"", Fault::Nameless(error));
+            None
         }
     }
 }
 
 // The same of a log's name.
-fn look_at(rt: &HostRuntime, log: usize, name: &[u8], room: &mut Room) -> Looked {
-    match opened(rt, name) {
-        Ok(file) => {
-            let reading = read_through(&file, room);
-            judged(rt, log, name, file, reading)
-        }
-        Err(error) => {
-            say::say_unread(rt, log, name, error);
-            Looked::Faulty
+fn look_at(rt: &HostRuntime, log: usize, name: &[u8]) -> Option<Log> {
+    match whole_log(rt, name) {
+        Ok(found) => Some(found),
+        Err(fault) => {
+            say::say_fault(rt, log, name, fault);
+            None
         }
     }
 }
 
-// A file that can be read by place, or the number of the error.
-fn opened(rt: &HostRuntime, name: &[u8]) -> Result<File, i32> {
+// The log of that name, if it can be read to its end and is whole.
+fn whole_log(rt: &HostRuntime, name: &[u8]) -> Result<Log, Fault> {
+    let file = opened(rt, name)?;
+    let reading = read_through(&file);
+    judged(file, reading)
+}
+
+// A file that can be read by place.
+fn opened(rt: &HostRuntime, name: &[u8]) -> Result<File, Unread> {
     match files::opened(rt, rt.stdin(), name)? {
         Source::Standard(input) => opened_again(rt, input),
         Source::Named(file) => Ok(file),
@@ -78,12 +72,11 @@ fn opened(rt: &HostRuntime, name: &[u8]) -> Result<File, i32> {
 // Standard input as a file that can be read by place: the system opens it again, under its number, so it has to be a file that may be opened.
 // What has no places, or cannot be read at all, fails as a read by place of the input itself does: a read of no bytes says what is closed, a
 // folder, or open for writing only.
-fn opened_again(rt: &HostRuntime, input: Stdin) -> Result<File, i32> {
-    if input.is_terminal() | is_pipe(rt) {
-        return Err(files::ESPIPE);
+fn opened_again(rt: &HostRuntime, mut input: Stdin) -> Result<File, Unread> {
+    if input.is_terminal() || is_pipe(rt) {
+        return Err(Unread::Pipe);
     }
-    let mut source = input;
-    files::read(&mut source, &mut [0u8; 0])?;
+    files::read(&mut input, &mut [])?;
     files::opened_file(rt, INPUT.as_bytes())
 }
 
@@ -92,68 +85,46 @@ const INPUT: &str = "/proc/self/fd/0";
 
 // Whether standard input is a pipe, or a socket.
 fn is_pipe(rt: &HostRuntime) -> bool {
-    match fs::metadata(rt, INPUT) {
-        Ok(found) => {
-            let kind = found.file_type();
-            kind.is_fifo() | kind.is_socket()
-        }
-        Err(_) => false,
-    }
+    fs::metadata(rt, INPUT).is_ok_and(|found| {
+        let kind = found.file_type();
+        kind.is_fifo() || kind.is_socket()
+    })
 }
 
-// Reads a log to its end. A proved loop has to end, and nothing says that the log does. So the loop counts its turns down, from a number
-// that no run uses up.
-fn read_through(file: &File, room: &mut Room) -> Reading {
-    let mut reading = read_some(Scanning::start(), file, room);
-    let mut turns = u64::MAX;
-    while turns > 0 {
+// Reads a log to its end. A proved loop has to end, and nothing says that the log does: no run uses up so many turns.
+fn read_through(file: &File) -> Result<Scanning, Unread> {
+    let mut room = [0u8; ROOM];
+    let mut scan = Scanning::start();
+    for _ in 0..u64::MAX {
+        let reading = read_some(scan, file, &mut room)?;
+        scan = reading.scan;
         if reading.held == 0 {
-            return reading;
+            return Ok(scan);
         }
-        let scan = reading.scan;
-        reading = read_some(scan, file, room);
-        turns -= 1;
     }
-    reading
+    Ok(scan)
 }
 
 // Reads once, where the bytes end that were taken, and takes what came.
-fn read_some(scan: Scanning, file: &File, room: &mut Room) -> Reading
-    ensures { scan_view result.scan ≡ scan_of (scan_view scan) (part room.new 0 result.held) }
+fn read_some(scan: Scanning, file: &File, room: &mut Room) -> Result<Reading, Unread>
+    ensures { IfOk result (λ r. scan_view r.scan ≡ scan_of (scan_view scan) (take r.held room.new)) }
 {
-    let mut held: usize = 0;
-    let mut failed = false;
-    let mut error: i32 = 0;
-    match window::read_at(file, scan.place, room) {
-        Ok(n) => held = n,
-        Err(number) => {
-            failed = true;
-            error = number;
-        }
-    }
-    let next = scan.scan(keys::part(&room[..], 0, held));
-    Reading {
-        scan: next,
+    let held = pieces::read_at(file, scan.place, room)?;
+    Ok(Reading {
+        scan: scan.scan(&room[..held]),
         held,
-        failed,
-        error,
-    }
+    })
 }
 
 // What a log is that was read to its end, or as far as it can be read.
-fn judged(rt: &HostRuntime, log: usize, name: &[u8], file: File, reading: Reading) -> Looked
+fn judged(file: File, reading: Result<Scanning, Unread>) -> Result<Log, Fault>
     ensures { Judged reading result }
 {
-    if reading.failed {
-        say::say_unread(rt, log, name, reading.error);
-        return Looked::Faulty;
-    }
-    let scan = reading.scan;
+    let scan = reading?;
     if scan.start != scan.place {
-        say::say_broken(rt, log, scan.start);
-        return Looked::Faulty;
+        return Err(Fault::Broken(scan.start));
     }
-    Looked::Whole(Log {
+    Ok(Log {
         file,
         length: scan.place,
     })

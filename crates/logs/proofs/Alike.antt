@@ -14,7 +14,7 @@ use Rattle.fields.specs.Laws.{AreBytes, AllFit}
 use Rattle.logs.specs.Logs.{Stored, stored_bytes, log_of, records, whole_length, is_whole, whole, read_log}
 use Rattle.logs.specs.Convert.{wider, convert_of}
 use Rattle.logs.specs.Laws.{ShortBody, Alike, ReadsAlike}
-use Rattle.logs.proofs.Records.{stored-length}
+use Rattle.logs.proofs.Walk.{stored-length}
 use Rattle.logs.proofs.Joined.{whole_length_lem, reads, read_back, short_bodies}
 
 -- ---- the three answers

@@ -14,7 +14,7 @@ use Rattle.fields.specs.Laws.{AreBytes, AllFit}
 use Rattle.fields.proofs.FieldLaws.{bytes_drop, number_lawful, number_size, number_small}
 use Rattle.logs.specs.Logs.{Stored, stored_bytes, log_of, claimed, size, is_there, first_of, records_from, records, whole_length, is_whole, whole, read_log}
 use Rattle.logs.specs.Laws.{Joined, ShortBody, ReadBack, FeedWrites}
-use Rattle.logs.proofs.Records.{there, more, last, stored-length, first-length, body-length, first, by_record}
+use Rattle.logs.proofs.Walk.{there, more, last, stored-length, first-length, body-length, first, by_record}
 
 -- ---- one record and the rest
 

@@ -13,7 +13,7 @@ use Rattle.fields.proofs.FieldLaws.{bytes_drop}
 use Rattle.logs.specs.Logs.{Stored, stored_bytes, log_of, claimed, size, is_there, first_of, records_from, records, whole_length}
 use Rattle.logs.specs.Convert.{wider}
 use Rattle.logs.specs.Laws.{Run, at_once, behind, in_pieces, joined, GrowsByHalf, AnyPieces, HeldShort}
-use Rattle.logs.proofs.Records.{there, not_there, more, last, first-length, by_record}
+use Rattle.logs.proofs.Walk.{there, not_there, more, last, first-length, by_record}
 use Rattle.logs.proofs.Joined.{length_more, length_last, claim_small}
 
 -- ---- a record that is there stays as it is when bytes follow

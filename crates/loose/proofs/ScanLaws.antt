@@ -1,6 +1,7 @@
 -- The heads one behind the other are those that the recursion over a value meets: what a reader reads, the scan passes, and finds a loose
 -- head there exactly if the definition does. One law for each reader, as in `Ahead` and `Shift` of cbor.
 -- Assumes nothing.
+use Rattle.std.specs.Prelude.{Option, None, Some}
 use mathlib.Core.Path.{◌≡◌, refl, sym, ap, ◌∙◌, subst}
 use mathlib.Core.Bool.{Bool, true, false, cond, ◌||◌, not, false≢true}
 use mathlib.Core.List.{List}
@@ -11,14 +12,11 @@ use lib.ListN.{length, get_or}
 use lib.Dec.{ltb, leb, eqb, lit<}
 use borrow.Author.Tests.{ltb-true, lt-ltb, lt-leb, le-ltb, eqb-true, eqb-false, ne_eqb, eq-eqb}
 use Rattle.cbor.specs.declared.Head.{Head}
-use Rattle.cbor.specs.declared.Head.TheVariants.{Of, Broken}
 use Rattle.cbor.specs.declared.Item.{Item}
-use Rattle.cbor.specs.declared.Item.TheVariants.{Unsigned, Negative, Bytes, Simple, Array, Map, Set, Refused}
-use Rattle.cbor.specs.declared.Next.{Next}
-use Rattle.cbor.specs.declared.Next.TheVariants.{At, Bad}
+use Rattle.cbor.specs.declared.Item.TheVariants.{Unsigned, Negative, Bytes, Simple, Array, Map, Set}
 use Rattle.cbor.specs.Cbor.{Reader, width, shortest, is_shortest, big_endian, head_value, head_of, head_at, end_of, bytes_at, set_of, tagged, item_of, item_at, and_then, repeat, scalar_of, key, pair, value_of, value, whole, is_item}
 use Rattle.cbor.proofs.HeadLaws.{width-none, big_below}
-use Rattle.cbor.proofs.Ahead.{by_test, Head_ahead, head-ahead}
+use Rattle.cbor.proofs.Ahead.{head_with, by_test, Head_ahead, head-ahead}
 use Rattle.loose.specs.Loose.{Question, onward, any_of, loose_heads, loose_item, loose_pair, loose_elements, loose}
 use Rattle.loose.specs.Scan.{behind_of, behind, scan, scanned, ScanHolds}
 use Rattle.loose.specs.Skip.{Skips, Halved}
@@ -34,11 +32,11 @@ or_false false = refl
 module _ (s : List ℕ) where
   -- ---- the scan goes ahead, so that as many heads as there are bytes are all of them
 
-  behind-ahead : (p : ℕ) (h : Head) → Head_ahead s p h → p < length s → p < behind s h
+  behind-ahead : (p : ℕ) (h : Option Head) → Head_ahead s p h → p < length s → p < behind s h
   unfolding end_of
-  behind-ahead p Broken a l = l
-  behind-ahead p (Of major info n next) a l =
-      by_test (λ (q : ℕ). p < q) (eqb major 2) (λ e. by_test (λ (q : ℕ). p < q) (ltb (length s) (next + n)) (λ f. omega arith) (λ f. omega arith)) (λ e. a.0)
+  behind-ahead p None a l = l
+  behind-ahead p (Some h) a l =
+      by_test (λ (q : ℕ). p < q) (eqb h.major 2) (λ e. by_test (λ (q : ℕ). p < q) (ltb (length s) (h.next + h.value)) (λ f. omega arith) (λ f. omega arith)) (λ e. a.0)
 
   pub enough : (k j p : ℕ) → length s ≤ k + p → length s ≤ j + p → scan s k p ≡ scan s j p
   unfolding scan
@@ -74,7 +72,7 @@ module _ (s : List ℕ) where
 
   -- ---- heads that are passed without their number being read
 
-  first_byte : (p b : ℕ) → b ≡ get_or s p 0 → p < length s → b % 32 < 24 → head_at s p ≡ Of (b / 32) (b % 32) (b % 32) (p + 1)
+  first_byte : (p b : ℕ) → b ≡ get_or s p 0 → p < length s → b % 32 < 24 → head_at s p ≡ head_with (b / 32) (b % 32) (b % 32) (p + 1)
   unfolding head_at head_of head_value
   first_byte p b e l h =
       let none : width (b % 32) ≡ 0 = width-none (b % 32) (lt-ltb (b % 32) 24 h) in
@@ -91,7 +89,7 @@ module _ (s : List ℕ) where
 
   -- a head with w bytes behind its first
   wide-head : (p b w : ℕ) → b ≡ get_or s p 0 → 24 ≤ b % 32 → b % 32 < 28 → width (b % 32) ≡ w → p + 1 + w ≤ length s
-      → head_at s p ≡ Of (b / 32) (b % 32) (big_endian s (p + 1) w) (p + 1 + w)
+      → head_at s p ≡ head_with (b / 32) (b % 32) (big_endian s (p + 1) w) (p + 1 + w)
   unfolding head_at head_of head_value
   wide-head p b w e h k q l = rw (← e, lt-leb 28 (b % 32) k, q, le-ltb (length s) (p + 1 + w) l, le-ltb (b % 32) 24 h)
 
@@ -109,9 +107,9 @@ module _ (s : List ℕ) where
   pub by-second : (p b n r : ℕ) → b ≡ get_or s p 0 → n ≡ get_or s (p + 1) 0 → n < 256 → p + 1 < length s → b % 32 ≡ 24 → 24 ≤ n → r ≡ behind_of s (b / 32) n (p + 1 + 1) → Skips s p r
   unfolding shortest
   by-second p b n r e f small l h k q =
-      let read : head_at s p ≡ Of (b / 32) (b % 32) n (p + 1 + 1) =
+      let read : head_at s p ≡ head_with (b / 32) (b % 32) n (p + 1 + 1) =
       wide-head p b 1 e (omega arith) (omega arith) (one_width (b % 32) h) (omega arith) ∙ rw (one_byte (p + 1), f) in
-      record { shortest = λ _. rw (read, le-ltb n 24 k, lt-ltb n 256 small, h); on = λ _. rw read q }
+      record { shortest = rw (read, le-ltb n 24 k, lt-ltb n 256 small, h); on = rw read q }
 
   -- a byte that is not 0 makes the number large
   large : (at w i : ℕ) → i < w → 0 < get_or s (at + i) 0 → 256 ^ (w - 1 - i) ≤ big_endian s at w
@@ -140,18 +138,14 @@ module _ (s : List ℕ) where
       let least : 256 ^ (w - 1 - i) ≤ big_endian s (p + 1) w = large (p + 1) w i (omega arith) some in
       let half : 256 ^ h ≤ 256 ^ (w - 1 - i) = pow-le-pow_right (lit< tt) (omega arith) in
       let is = f.told (big_endian s (p + 1) w) (omega arith) (big_below s bytes (p + 1) w) in
-      record { shortest = λ _. rw (read, is) (eq-eqb (b % 32) (b % 32) refl); on = λ _. rw (read, ne_eqb (b / 32) 2 f.other) q }
+      record { shortest = rw (read, is) (eq-eqb (b % 32) (b % 32) refl); on = rw (read, ne_eqb (b / 32) 2 f.other) q }
 
-  -- where nothing is told, it does not go on
-  pub stays : (p : ℕ) → Skips s p p
-  stays p = record { shortest = λ h. absurd (omega arith); on = λ h. absurd (omega arith) }
-
-  pub goes_on : (p q : ℕ) → p < length s → Skips s p q → p < q → from p ≡ from q
-  goes_on p q l h k = goes p l ∙ rw (h.shortest k, ← h.on k)
+  pub goes_on : (p q : ℕ) → p < length s → Skips s p q → from p ≡ from q
+  goes_on p q l h = goes p l ∙ rw (h.shortest, ← h.on)
 
   -- ---- a turn of the loop, at a head h
 
-  module _ (p : ℕ) (l : p < length s) (h : Head) (read : h ≡ head_at s p) where
+  module _ (p : ℕ) (l : p < length s) (h : Option Head) (read : h ≡ head_at s p) where
     pub nearer : (q : ℕ) → q ≡ behind s h → length s - q < length s - p
     nearer q e = let a = behind-ahead p (head_at s p) (head-ahead s p) l in rw (e, read) (omega arith)
 
@@ -161,74 +155,74 @@ module _ (s : List ℕ) where
   -- ---- an item's heads
 
   -- the position behind them: where the item ends, or where its first element stands
-  abbrev inside : Item → Next
-  inside (Unsigned n next) = At next
-  inside (Negative n next) = At next
-  inside (Bytes start next) = At next
-  inside (Simple next) = At next
-  inside (Array n at) = At at
-  inside (Map n at) = At at
-  inside (Set n at) = At at
-  inside Refused = Bad
+  abbrev inside : Option Item → Option ℕ
+  inside (Some (Unsigned n next)) = Some next
+  inside (Some (Negative n next)) = Some next
+  inside (Some (Bytes start next)) = Some next
+  inside (Some (Simple next)) = Some next
+  inside (Some (Array n at)) = Some at
+  inside (Some (Map n at)) = Some at
+  inside (Some (Set n at)) = Some at
+  inside None = None
 
   -- a head that was read begins before the end
-  begins : (p major info n next : ℕ) → head_at s p ≡ Of major info n next → p < length s
+  begins : (p major info n next : ℕ) → head_at s p ≡ head_with major info n next → p < length s
   begins p major info n next e = let a = subst (Head_ahead s p) e (head-ahead s p) in omega arith
 
-  passed : (p major info n next : ℕ) → head_at s p ≡ Of major info n next → from p ≡ (not (is_shortest (Of major info n next)) || from (behind s (Of major info n next)))
+  passed : (p major info n next : ℕ) → head_at s p ≡ head_with major info n next → from p ≡ (not (is_shortest (head_with major info n next)) || from (behind s (head_with major info n next)))
   passed p major info n next e = goes p (begins p major info n next e) ∙ rw e
 
-  no_place : {q : ℕ} → Bad ≡ At q → ⊥
+  no_place : {q : ℕ} → None ≡ Some q → ⊥
   no_place e = subst refused e tt
     where
-      refused : Next → Type 0
-      refused Bad = Unit {0}
-      refused (At q) = ⊥
+      refused : Option ℕ → Type 0
+      refused None = Unit {0}
+      refused (Some q) = ⊥
 
-  at_inj : {p q : ℕ} → At p ≡ At q → p ≡ q
-  at_inj {p} e = ap (λ (x : Next). position x) e
+  at_inj : {p q : ℕ} → Some p ≡ Some q → p ≡ q
+  at_inj {p} e = ap (λ (x : Option ℕ). position x) e
     where
-      position : Next → ℕ
-      position (At q) = q
-      position Bad = p
+      position : Option ℕ → ℕ
+      position (Some q) = q
+      position None = p
 
-  module _ (p major info n next : ℕ) (read : head_at s p ≡ Of major info n next) where
+  module _ (p major info n next : ℕ) (read : head_at s p ≡ head_with major info n next) where
     -- what the scan makes of an item of this head, from which it goes on at q
-    abbrev Scans : Item → Type 0
-    Scans x = (q : ℕ) → inside x ≡ At q → from p ≡ (loose_heads s (Of major info n next) || from q)
+    abbrev Scans : Option Item → Type 0
+    Scans x = (q : ℕ) → inside x ≡ Some q → from p ≡ (loose_heads s (head_with major info n next) || from q)
 
     -- neither a byte string nor a tag
-    plain : (k : ℕ) → (k ≡ 2 → ⊥) → (k ≡ 6 → ⊥) → major ≡ k → (q : ℕ) → At next ≡ At q → from p ≡ (loose_heads s (Of major info n next) || from q)
+    plain : (k : ℕ) → (k ≡ 2 → ⊥) → (k ≡ 6 → ⊥) → major ≡ k → (q : ℕ) → Some next ≡ Some q → from p ≡ (loose_heads s (head_with major info n next) || from q)
     plain k a b e q h =
         let no_bytes : eqb major 2 ≡ false = ne_eqb major 2 (λ f. a (sym e ∙ f)) in
         let no-tag : eqb major 6 ≡ false = ne_eqb major 6 (λ f. b (sym e ∙ f)) in
-        passed p major info n next read ∙ rw (no_bytes, no-tag, at_inj h, or_false (not (is_shortest (Of major info n next))))
+        passed p major info n next read ∙ rw (no_bytes, no-tag, at_inj h, or_false (not (is_shortest (head_with major info n next))))
 
     string : major ≡ 2 → Scans (bytes_at s n next)
     unfolding bytes_at end_of
     string e = by (ltb (length s) (next + n)) refl
       where
-        by : (t : Bool) → ltb (length s) (next + n) ≡ t → Scans (cond t Refused (Bytes next (next + n)))
+        by : (t : Bool) → ltb (length s) (next + n) ≡ t → Scans (cond t None (Some (Bytes next (next + n))))
         by true f q h = absurd (no_place h)
-        by false f q h = passed p major info n next read ∙ rw (e, f, at_inj h, or_false (not (is_shortest (Of major info n next))))
+        by false f q h = passed p major info n next read ∙ rw (e, f, at_inj h, or_false (not (is_shortest (head_with major info n next))))
 
-    set : (h : Head) → head_at s next ≡ h → major ≡ 6 → Scans (set_of h)
-    set Broken r e = λ q h. absurd (no_place h)
-    set (Of m i k after) r e = by (eqb m 4) refl
+    set : (h : Option Head) → head_at s next ≡ h → major ≡ 6 → Scans (set_of h)
+    set None r e = λ q h. absurd (no_place h)
+    set (Some a) r e = by (eqb a.major 4) refl
       where
-        by : (t : Bool) → eqb m 4 ≡ t → Scans (cond t (Set k after) Refused)
+        by : (t : Bool) → eqb a.major 4 ≡ t → Scans (cond t (Some (Set a.value a.next)) None)
         by false f q h = absurd (no_place h)
         by true f q h =
-            let m-is : m ≡ 4 = eqb-true m 4 f in
-            let no_bytes : eqb m 2 ≡ false = ne_eqb m 2 (λ g. let z : ⊥ = omega arith in z) in
-            passed p major info n next read ∙ rw (e, passed next m i k after r, no_bytes, r, at_inj h)
-            (sym (or_assoc (not (is_shortest (Of 6 info n next))) (not (is_shortest (Of m i k after))) (from q)))
+            let major-is : a.major ≡ 4 = eqb-true a.major 4 f in
+            let no_bytes : eqb a.major 2 ≡ false = ne_eqb a.major 2 (λ g. let z : ⊥ = omega arith in z) in
+            passed p major info n next read ∙ rw (e, passed next a.major a.info a.value a.next r, no_bytes, r, at_inj h)
+            (sym (or_assoc (not (is_shortest (head_with 6 info n next))) (not (is_shortest (Some a))) (from q)))
 
     tag : major ≡ 6 → Scans (tagged s n next)
     unfolding tagged
     tag e = by_test Scans (eqb n 258) (λ f. set (head_at s next) refl e) (λ f q h. absurd (no_place h))
 
-    item : Scans (item_of s (Of major info n next))
+    item : Scans (item_of s (head_with major info n next))
     item =
         by_test Scans (eqb major 0) (λ e. plain 0 (λ z. absurd (omega arith)) (λ z. absurd (omega arith)) (eqb-true major 0 e)) (λ e.
         by_test Scans (eqb major 1) (λ e. plain 1 (λ z. absurd (omega arith)) (λ z. absurd (omega arith)) (eqb-true major 1 e)) (λ e.
@@ -243,36 +237,36 @@ module _ (s : List ℕ) where
 
   -- what r reads the scan passes, and finds a loose head there as q says
   pub record Passes (r : Reader) (q : Question) : Type 0 where
-    pub passes : (p o : ℕ) → r p ≡ At o → from p ≡ (q p || from o)
+    pub passes : (p o : ℕ) → r p ≡ Some o → from p ≡ (q p || from o)
 
-  item-passes : (p o : ℕ) → inside (item_at s p) ≡ At o → from p ≡ (loose_item s p || from o)
+  item-passes : (p o : ℕ) → inside (item_at s p) ≡ Some o → from p ≡ (loose_item s p || from o)
   unfolding item_at loose_item
   item-passes p o = by (head_at s p) refl
     where
-      by : (h : Head) → head_at s p ≡ h → inside (item_of s h) ≡ At o → from p ≡ (loose_heads s h || from o)
-      by Broken e f = absurd (no_place f)
-      by (Of major info n next) e f = item p major info n next e o f
+      by : (h : Option Head) → head_at s p ≡ h → inside (item_of s h) ≡ Some o → from p ≡ (loose_heads s h || from o)
+      by None e f = absurd (no_place f)
+      by (Some h) e f = item p h.major h.info h.value h.next e o f
 
-  scalar_inside : (x : Item) (o : ℕ) → scalar_of x ≡ At o → inside x ≡ At o
-  scalar_inside (Unsigned n next) o e = e
-  scalar_inside (Negative n next) o e = e
-  scalar_inside (Bytes start next) o e = e
-  scalar_inside (Simple next) o e = e
-  scalar_inside (Array n at) o e = absurd (no_place e)
-  scalar_inside (Map n at) o e = absurd (no_place e)
-  scalar_inside (Set n at) o e = absurd (no_place e)
-  scalar_inside Refused o e = absurd (no_place e)
+  scalar_inside : (x : Option Item) (o : ℕ) → scalar_of x ≡ Some o → inside x ≡ Some o
+  scalar_inside (Some (Unsigned n next)) o e = e
+  scalar_inside (Some (Negative n next)) o e = e
+  scalar_inside (Some (Bytes start next)) o e = e
+  scalar_inside (Some (Simple next)) o e = e
+  scalar_inside (Some (Array n at)) o e = absurd (no_place e)
+  scalar_inside (Some (Map n at)) o e = absurd (no_place e)
+  scalar_inside (Some (Set n at)) o e = absurd (no_place e)
+  scalar_inside None o e = absurd (no_place e)
 
   key-passes : Passes (key s) (loose_item s)
   unfolding key
   key-passes = record { passes = λ p o e. item-passes p o (scalar_inside (item_at s p) o e) }
 
   -- one reader after another: what x read the scan passed, and goes on as the next does
-  then_passes : (p o : ℕ) (a : Bool) (x : Next) (r : Reader) (q : Question)
-      → ((m : ℕ) → x ≡ At m → from p ≡ (a || from m)) → ((m : ℕ) → r m ≡ At o → from m ≡ (q m || from o))
-      → and_then x r ≡ At o → from p ≡ ((a || onward x q) || from o)
-  then_passes p o a Bad r q f g e = absurd (no_place e)
-  then_passes p o a (At m) r q f g e = f m refl ∙ rw (g m e) (sym (or_assoc a (q m) (from o)))
+  then_passes : (p o : ℕ) (a : Bool) (x : Option ℕ) (r : Reader) (q : Question)
+      → ((m : ℕ) → x ≡ Some m → from p ≡ (a || from m)) → ((m : ℕ) → r m ≡ Some o → from m ≡ (q m || from o))
+      → and_then x r ≡ Some o → from p ≡ ((a || onward x q) || from o)
+  then_passes p o a None r q f g e = absurd (no_place e)
+  then_passes p o a (Some m) r q f g e = f m refl ∙ rw (g m e) (sym (or_assoc a (q m) (from o)))
 
   pub pair-passes : {r : Reader} {q : Question} → Passes r q → Passes (pair s r) (loose_pair s q)
   unfolding pair loose_pair
@@ -286,23 +280,23 @@ module _ (s : List ℕ) where
       record { passes = λ p o. then_passes p o (q p) (r p) (repeat n r) (any_of n r q) (h.passes p) (λ m. rest.passes m o) }
 
   -- a container: its heads, then its elements
-  elements_pass : (p at o : ℕ) (r : Reader) (q : Question) → Passes r q → (from p ≡ (loose_item s p || from at)) → r at ≡ At o → from p ≡ ((loose_item s p || q at) || from o)
+  elements_pass : (p at o : ℕ) (r : Reader) (q : Question) → Passes r q → (from p ≡ (loose_item s p || from at)) → r at ≡ Some o → from p ≡ ((loose_item s p || q at) || from o)
   elements_pass p at o r q h e f = e ∙ rw (h.passes at o f) (sym (or_assoc (loose_item s p) (q at) (from o)))
 
   scalar_passes : (p o : ℕ) → from p ≡ (loose_item s p || from o) → from p ≡ ((loose_item s p || false) || from o)
   scalar_passes p o e = e ∙ rw (or_false (loose_item s p))
 
-  value_of-passes : {r : Reader} {q : Question} → Passes r q → (p o : ℕ) (x : Item)
-      → ((m : ℕ) → inside x ≡ At m → from p ≡ (loose_item s p || from m)) → value_of s r x ≡ At o → from p ≡ ((loose_item s p || loose_elements s r q x) || from o)
-  value_of-passes h p o (Unsigned n next) f e = scalar_passes p o (f o e)
-  value_of-passes h p o (Negative n next) f e = scalar_passes p o (f o e)
-  value_of-passes h p o (Bytes start next) f e = scalar_passes p o (f o e)
-  value_of-passes h p o (Simple next) f e = scalar_passes p o (f o e)
-  value_of-passes {r} {q} h p o (Array n at) f e = elements_pass p at o (repeat n r) (any_of n r q) (repeat-passes h n) (f at refl) e
-  value_of-passes {r} {q} h p o (Map n at) f e =
+  value_of-passes : {r : Reader} {q : Question} → Passes r q → (p o : ℕ) (x : Option Item)
+      → ((m : ℕ) → inside x ≡ Some m → from p ≡ (loose_item s p || from m)) → value_of s r x ≡ Some o → from p ≡ ((loose_item s p || loose_elements s r q x) || from o)
+  value_of-passes h p o (Some (Unsigned n next)) f e = scalar_passes p o (f o e)
+  value_of-passes h p o (Some (Negative n next)) f e = scalar_passes p o (f o e)
+  value_of-passes h p o (Some (Bytes start next)) f e = scalar_passes p o (f o e)
+  value_of-passes h p o (Some (Simple next)) f e = scalar_passes p o (f o e)
+  value_of-passes {r} {q} h p o (Some (Array n at)) f e = elements_pass p at o (repeat n r) (any_of n r q) (repeat-passes h n) (f at refl) e
+  value_of-passes {r} {q} h p o (Some (Map n at)) f e =
       elements_pass p at o (repeat n (pair s r)) (any_of n (pair s r) (loose_pair s q)) (repeat-passes (pair-passes h) n) (f at refl) e
-  value_of-passes h p o (Set n at) f e = elements_pass p at o (repeat n (key s)) (any_of n (key s) (loose_item s)) (repeat-passes key-passes n) (f at refl) e
-  value_of-passes h p o Refused f e = absurd (no_place e)
+  value_of-passes h p o (Some (Set n at)) f e = elements_pass p at o (repeat n (key s)) (any_of n (key s) (loose_item s)) (repeat-passes key-passes n) (f at refl) e
+  value_of-passes h p o None f e = absurd (no_place e)
 
   pub value_passes : (levels : ℕ) → Passes (value s levels) (loose s levels)
   unfolding value loose
@@ -315,9 +309,9 @@ module _ (s : List ℕ) where
   unfolding scanned
   all-passed {r} {q} h = by (r 0) refl
     where
-      by : (x : Next) → r 0 ≡ x → whole s x ≡ true → from 0 ≡ q 0
-      by Bad e f = absurd (false≢true f)
-      by (At o) e f =
+      by : (x : Option ℕ) → r 0 ≡ x → whole s x ≡ true → from 0 ≡ q 0
+      by None e f = absurd (false≢true f)
+      by (Some o) e f =
           let end : o ≡ length s = eqb-true o (length s) f in
           h.passes 0 o e ∙ rw (ends o (omega arith)) (or_false (q 0))
 

@@ -1,5 +1,6 @@
 -- The scan behind a prefix goes as it does alone, and heads that are written are shortest: the scan finds nothing in them.
 -- Assumes nothing.
+use Rattle.std.specs.Prelude.{Option, None, Some}
 use mathlib.Core.Path.{◌≡◌, refl, sym, ◌∙◌}
 use mathlib.Core.List.{List, ◌++◌, append_assoc}
 use Prim.Native.Nat.{ℕ, zero, suc, ◌+◌, ◌^◌, ◌≤◌, ◌<◌}
@@ -9,9 +10,9 @@ use lib.ListN.{length, length-append}
 use lib.Dec.{ltb, eqb}
 use borrow.Author.Tests.{le-ltb, ne_eqb, eq-eqb}
 use Rattle.cbor.specs.declared.Head.{Head}
-use Rattle.cbor.specs.declared.Head.TheVariants.{Of, Broken}
 use Rattle.cbor.specs.Cbor.{shortest, is_shortest, head_at, end_of}
 use Rattle.cbor.specs.Heads.{head_bytes, string_bytes}
+use Rattle.cbor.proofs.Ahead.{head_with}
 use Rattle.cbor.proofs.Shift.{shifted_head, of_both, ltb_shift, head_shift}
 use Rattle.cbor.proofs.HeadLaws.{length-head, head-back}
 use Rattle.loose.specs.Scan.{behind, scan, scanned}
@@ -28,13 +29,13 @@ module _ (p s : List ℕ) where
   end_shift at n =
       rw (length-append, add_assoc past at n, ltb_shift past (length s) (at + n)) (of_both (λ (q : ℕ). past + q) (ltb (length s) (at + n)) (sym (add-suc past (length s))) refl)
 
-  behind_shift : (h : Head) → behind (p ++ s) (shifted_head past h) ≡ past + behind s h
-  behind_shift Broken = length-append p s
-  behind_shift (Of major info n next) = of_both (λ (q : ℕ). past + q) (eqb major 2) (end_shift next n) refl
+  behind_shift : (h : Option Head) → behind (p ++ s) (shifted_head past h) ≡ past + behind s h
+  behind_shift None = length-append p s
+  behind_shift (Some h) = of_both (λ (q : ℕ). past + q) (eqb h.major 2) (end_shift h.next h.value) refl
 
-  shortest_shift : (h : Head) → is_shortest (shifted_head past h) ≡ is_shortest h
-  shortest_shift Broken = refl
-  shortest_shift (Of major info n next) = refl
+  shortest_shift : (h : Option Head) → is_shortest (shifted_head past h) ≡ is_shortest h
+  shortest_shift None = refl
+  shortest_shift (Some h) = refl
 
   scan_shift : (k at : ℕ) → scan (p ++ s) k (past + at) ≡ scan s k at
   unfolding scan
@@ -50,8 +51,8 @@ module _ (p s : List ℕ) where
 -- ---- a head that is written, and a byte string
 
 -- the scan goes on behind it
-passed : (p rest : List ℕ) (major n : ℕ) → n < 2 ^ 64 → head_at (p ++ rest) 0 ≡ Of major (shortest n) n (length (head_bytes major n))
-    → behind (p ++ rest) (Of major (shortest n) n (length (head_bytes major n))) ≡ length p → 0 < length p → scanned (p ++ rest) ≡ scanned rest
+passed : (p rest : List ℕ) (major n : ℕ) → n < 2 ^ 64 → head_at (p ++ rest) 0 ≡ head_with major (shortest n) n (length (head_bytes major n))
+    → behind (p ++ rest) (head_with major (shortest n) n (length (head_bytes major n))) ≡ length p → 0 < length p → scanned (p ++ rest) ≡ scanned rest
 unfolding scanned
 passed p rest major n h read goes_on some =
     let e : length p ≡ length p + 0 = omega arith in

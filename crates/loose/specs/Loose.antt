@@ -1,13 +1,10 @@
 -- Loosely written values, as document 02, E5, states them: one of the heads is not the shortest for its number. The recursion is that of
 -- `value`: the heads of an item, then those of its elements, each at the position where the one before it ends.
 -- These are definitions: they assume nothing.
-use Rattle.std.specs.Prelude.{ℕ, zero, suc, List, Bool, false, ◌&&◌, ◌||◌, not, eqb}
+use Rattle.std.specs.Prelude.{ℕ, zero, suc, List, Bool, false, ◌&&◌, ◌||◌, not, eqb, Option, None, Some}
 use Rattle.cbor.specs.declared.Head.{Head}
-use Rattle.cbor.specs.declared.Head.TheVariants.{Of, Broken}
 use Rattle.cbor.specs.declared.Item.{Item}
-use Rattle.cbor.specs.declared.Item.TheVariants.{Unsigned, Negative, Bytes, Simple, Array, Map, Set, Refused}
-use Rattle.cbor.specs.declared.Next.{Next}
-use Rattle.cbor.specs.declared.Next.TheVariants.{At, Bad}
+use Rattle.cbor.specs.declared.Item.TheVariants.{Unsigned, Negative, Bytes, Simple, Array, Map, Set}
 use Rattle.cbor.specs.Cbor.{Reader, is_shortest, head_at, item_at, key, pair, value}
 
 -- what is asked of a position
@@ -15,9 +12,9 @@ abbrev pub Question : Type 0
 Question = ℕ → Bool
 
 -- of the position reached, if one is
-abbrev pub onward : Next → Question → Bool
-onward Bad q = false
-onward (At p) q = q p
+abbrev pub onward : Option ℕ → Question → Bool
+onward None q = false
+onward (Some p) q = q p
 
 -- of any of n, one after the other, which r reads
 unfoldable pub any_of : ℕ → Reader → Question → Question
@@ -26,9 +23,9 @@ any_of (suc n) r q at = q at || onward (r at) (any_of n r q)
 
 module _ (s : List ℕ) where
   -- an item's heads: a tag's is followed by that of what it stands before
-  abbrev pub loose_heads : Head → Bool
-  loose_heads Broken = false
-  loose_heads (Of major info n next) = not (is_shortest (Of major info n next)) || eqb major 6 && not (is_shortest (head_at s next))
+  abbrev pub loose_heads : Option Head → Bool
+  loose_heads None = false
+  loose_heads (Some h) = not (is_shortest (Some h)) || eqb h.major 6 && not (is_shortest (head_at s h.next))
 
   unfoldable pub loose_item : Question
   loose_item at = loose_heads (head_at s at)
@@ -38,15 +35,15 @@ module _ (s : List ℕ) where
   loose_pair q at = loose_item at || onward (key s at) q
 
   -- the elements of an item, which r reads
-  abbrev pub loose_elements : Reader → Question → Item → Bool
-  loose_elements r q (Unsigned n next) = false
-  loose_elements r q (Negative n next) = false
-  loose_elements r q (Bytes start next) = false
-  loose_elements r q (Simple next) = false
-  loose_elements r q (Array n at) = any_of n r q at
-  loose_elements r q (Map n at) = any_of n (pair s r) (loose_pair q) at
-  loose_elements r q (Set n at) = any_of n (key s) loose_item at
-  loose_elements r q Refused = false
+  abbrev pub loose_elements : Reader → Question → Option Item → Bool
+  loose_elements r q (Some (Unsigned n next)) = false
+  loose_elements r q (Some (Negative n next)) = false
+  loose_elements r q (Some (Bytes start next)) = false
+  loose_elements r q (Some (Simple next)) = false
+  loose_elements r q (Some (Array n at)) = any_of n r q at
+  loose_elements r q (Some (Map n at)) = any_of n (pair s r) (loose_pair q) at
+  loose_elements r q (Some (Set n at)) = any_of n (key s) loose_item at
+  loose_elements r q None = false
 
   -- a value in which containers nest at most so many levels deep
   unfoldable pub loose : ℕ → Question

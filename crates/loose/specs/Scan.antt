@@ -1,9 +1,8 @@
 -- The same without recursion over containers: the heads one behind the other up to the end of the bytes, a byte string's content skipped.
 -- Bytes that are one item have no other heads, so both come to the same (`ScanHolds`, in proofs/ScanLaws.antt).
 -- These are definitions: they assume nothing.
-use Rattle.std.specs.Prelude.{ℕ, zero, suc, ◌≡◌, List, Bool, true, false, cond, ◌||◌, not, length, ltb, eqb}
+use Rattle.std.specs.Prelude.{ℕ, zero, suc, ◌≡◌, List, Bool, true, false, cond, ◌||◌, not, length, ltb, eqb, Option, None, Some}
 use Rattle.cbor.specs.declared.Head.{Head}
-use Rattle.cbor.specs.declared.Head.TheVariants.{Of, Broken}
 use Rattle.cbor.specs.Cbor.{is_shortest, head_at, end_of, is_item}
 use Rattle.loose.specs.Loose.{loose}
 
@@ -13,9 +12,9 @@ module _ (s : List ℕ) where
   behind_of major n next = cond (eqb major 2) (end_of s next n) next
 
   -- the same of a head that was read; the end where no head stands
-  abbrev pub behind : Head → ℕ
-  behind Broken = length s
-  behind (Of major info n next) = behind_of major n next
+  abbrev pub behind : Option Head → ℕ
+  behind None = length s
+  behind (Some h) = behind_of h.major h.value h.next
 
   -- one of the heads from a position on, at most k of them, is not the shortest
   unfoldable pub scan : ℕ → ℕ → Bool

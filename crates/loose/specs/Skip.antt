@@ -3,10 +3,10 @@ use Rattle.std.specs.Prelude.{ℕ, ◌*◌, ◌/◌, ◌%◌, ◌^◌, ◌≤◌
 use Rattle.cbor.specs.Cbor.{width, shortest, is_shortest, head_at}
 use Rattle.loose.specs.Scan.{behind}
 
--- the answer: where one goes on, the head is the shortest, and it goes on behind it
+-- the position that is answered, if one is: the head is the shortest, and it lies behind it
 pub record Skips (s : List ℕ) (at r : ℕ) : Type 0 where
-  pub shortest : at < r → is_shortest (head_at s at) ≡ true
-  pub on : at < r → r ≡ behind s (head_at s at)
+  pub shortest : is_shortest (head_at s at) ≡ true
+  pub on : r ≡ behind s (head_at s at)
 
 -- what `skip_half` asks for: a head with twice so many bytes behind its first, not a byte string's, which is the shortest for the numbers that
 -- half of them cannot hold

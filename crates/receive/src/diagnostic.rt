@@ -1,279 +1,201 @@
 // Items of the CBOR subset in the diagnostic notation of RFC 7049, section 6, with byte strings as text where RFC 8610, appendix G.2, lets
-// them be. One loop walks over the items, with a row of the containers that are open; eight are as many as the check lets nest. Bytes that
-// do not pass the check end the walk.
-ghost use Rattle.std.specs.Prelude.{◌≡◌, ◌+◌, ◌<◌, ◌≤◌, length};
-ghost use Rattle.receive.specs.Nearer.{Nearer};
+// them be. One loop walks over the items, with a stack of the containers that are open; eight are as many as the check lets nest. Bytes
+// that do not pass the check end the walk.
+ghost use Rattle.std.specs.Prelude.{◌≡◌, ◌+◌, ◌<◌, length, OnSome};
+ghost use Rattle.arrayvec.specs.ArrayVec.{array_vec_len};
+ghost use Rattle.receive.specs.Nearer.{distance};
 
 use crate::line::Text;
-use crate::words;
-use cbor::{Item, Next};
+use arrayvec::ArrayVec;
+use cbor::Item;
 
-#[derive(Clone, Copy)]
+// How a byte string is written: as text in quotes where each byte can stand there as it is, in hex otherwise.
+#[derive(Clone, Copy, PartialEq, Eq)]
+pub(crate) enum Form {
+    Text,
+    Hex,
+}
+
+impl Form {
+    // The form of a byte string, which is text where it has no byte.
+    pub(crate) fn of(bytes: &[u8]) -> Form {
+        if bytes.iter().all(|b| is_plain(*b)) {
+            Form::Text
+        } else {
+            Form::Hex
+        }
+    }
+
+    // What a byte string begins with, up to the quote.
+    pub(crate) fn start(self) -> &'static [u8] {
+        match self {
+            Form::Text => b"'",
+            Form::Hex => b"h'",
+        }
+    }
+
+    // Puts what stands between the quotes of a byte string, or a part of it.
+    pub(crate) fn put_content(self, bytes: &[u8], line: &mut Text) {
+        match self {
+            Form::Text => line.put(bytes),
+            Form::Hex => line.put_hex(bytes),
+        }
+    }
+}
+
+// Whether a byte is printable ASCII, but no quote and no backslash, which would have to be escaped.
+fn is_plain(b: u8) -> bool {
+    match b {
+        b'\'' | b'\\' => false,
+        _ => matches!(b, b' '..=b'~'),
+    }
+}
+
+#[derive(Clone, Copy, Default, PartialEq, Eq)]
 enum Kind {
+    #[default]
     Array,
     Set,
     Map,
 }
 
+impl Kind {
+    fn start(self) -> &'static [u8] {
+        match self {
+            Kind::Array => b"[",
+            Kind::Set => b"258([",
+            Kind::Map => b"{",
+        }
+    }
+
+    fn end(self) -> &'static [u8] {
+        match self {
+            Kind::Array => b"]",
+            Kind::Set => b"])",
+            Kind::Map => b"}",
+        }
+    }
+}
+
 // An open container, and how many items are left: in a map two for each pair, the key and its value.
-#[derive(Clone, Copy)]
+#[derive(Clone, Copy, Default)]
 struct Open {
     kind: Kind,
     left: u64,
 }
 
-// The position of the next item, the end of the text, and the open containers: the first `depth` of the row, the innermost last.
-#[derive(Clone, Copy)]
+impl Open {
+    // A container of so many elements or pairs, before its first item. A map of bytes that pass the check has far fewer than 2^63 pairs.
+    fn of(kind: Kind, count: u64) -> Open {
+        match kind {
+            Kind::Map => Open {
+                kind,
+                left: count.wrapping_add(count),
+            },
+            _ => Open { kind, left: count },
+        }
+    }
+
+    // What stands before the next item, where one is left. Before a map's value that is a colon: with it an odd number of items is left.
+    fn separator(self) -> &'static [u8] {
+        if self.left == 0 {
+            return b"";
+        }
+        if self.kind == Kind::Map && self.left % 2 == 1 {
+            return b": ";
+        }
+        b", "
+    }
+}
+
+// The position of the next item, the container that it stands in, and the containers around that one, the outermost first.
+#[derive(Drop)]
 struct Walk {
     at: usize,
-    end: usize,
-    depth: usize,
-    row: [Open; 8],
+    inner: Open,
+    outer: ArrayVec<Open, 7>,
 }
 
-// A byte string: as text in quotes where each byte can stand there as it is, in hex otherwise.
-pub(crate) fn put_bytes(bytes: &[u8], out: &mut Text, at: usize) -> usize {
-    let as_text = is_text(bytes);
-    let a = put_start(as_text, out, at);
-    let b = put_content(bytes, as_text, out, a);
-    text::put(b"'", out, b)
-}
-
-// The start of a byte string, with the quote.
-pub(crate) fn put_start(as_text: bool, out: &mut Text, at: usize) -> usize {
-    if as_text {
-        return text::put(b"'", out, at);
-    }
-    text::put(b"h'", out, at)
-}
-
-// What stands between the quotes of a byte string, or a part of it.
-pub(crate) fn put_content(bytes: &[u8], as_text: bool, out: &mut Text, at: usize) -> usize {
-    if as_text {
-        return text::put(bytes, out, at);
-    }
-    text::put_hex(bytes, out, at)
-}
-
-// Whether each byte can stand in quotes as it is, which holds where there is none.
-pub(crate) fn is_text(bytes: &[u8]) -> bool {
-    let mut i: usize = 0;
-    while i < bytes.len() {
-        if !is_plain(bytes[i]) {
-            return false;
+impl Walk {
+    // The end of a container with nothing left, or the next item. None where the walk ends: behind the outermost container, or at bytes
+    // that do not pass the check.
+    fn step(&mut self, s: &[u8], line: &mut Text) -> Option<()>
+        ensures { OnSome result (distance (length s.now) self.new < distance (length s.now) self.old) }
+    {
+        if self.inner.left == 0 {
+            return self.leave(line);
         }
-        i += 1;
+        self.inner.left -= 1;
+        let x = cbor::read_item(s, self.at);
+        match x? {
+            Item::Array(n, next) => self.enter(Kind::Array, n, next, line),
+            Item::Set(n, next) => self.enter(Kind::Set, n, next, line),
+            Item::Map(n, next) => self.enter(Kind::Map, n, next, line),
+            scalar => {
+                put_scalar(s, self.at, scalar, line);
+                self.at = cbor::scalar(x)?;
+                line.put(self.inner.separator());
+                Some(())
+            }
+        }
     }
-    true
+
+    // Goes behind the end of a container, into the one around it. None where there is none.
+    fn leave(&mut self, line: &mut Text) -> Option<()>
+        ensures { OnSome result ((self.new.at ≡ self.old.at) × (array_vec_len self.new.outer + 1 ≡ array_vec_len self.old.outer)) }
+    {
+        line.put(self.inner.kind.end());
+        self.inner = self.outer.pop()?;
+        line.put(self.inner.separator());
+        Some(())
+    }
+
+    // Goes into a container of so many elements or pairs, the first of which stands at `next`. None where eight are open.
+    fn enter(&mut self, kind: Kind, count: u64, next: usize, line: &mut Text) -> Option<()>
+        ensures { OnSome result ((self.new.at ≡ next) × (array_vec_len self.new.outer ≡ array_vec_len self.old.outer + 1)) }
+    {
+        line.put(kind.start());
+        self.outer.try_push(self.inner).ok()?;
+        self.inner = Open::of(kind, count);
+        self.at = next;
+        Some(())
+    }
 }
 
-// Whether a byte is printable ASCII, but no quote and no backslash, which would have to be escaped.
-fn is_plain(b: u8) -> bool {
-    (b' ' <= b) & (b <= b'~') & (b != b'\'') & (b != b'\\')
+// A scalar, which stands at `at`.
+fn put_scalar(s: &[u8], at: usize, x: Item, line: &mut Text) {
+    match x {
+        Item::Unsigned(n, _) => line.put_decimal(n),
+        Item::Negative(n, _) => line.put_negative(n),
+        Item::Bytes(start, stop) => put_bytes(keys::part(s, start, stop), line),
+        _ => line.put(simple(frame::byte_at(s, at))),
+    }
 }
 
 // A map of so many pairs, the first of which stands at a position.
-pub(crate) fn put_map(s: &[u8], count: u64, first: usize, out: &mut Text, at: usize) -> usize {
-    let end = text::put(b"{", out, at);
-    let row = [opening(Kind::Map, count); 8];
+pub(crate) fn put_map(s: &[u8], count: u64, first: usize, line: &mut Text) {
+    line.put(Kind::Map.start());
     let mut walk = Walk {
         at: first,
-        end,
-        depth: 1,
-        row,
+        inner: Open::of(Kind::Map, count),
+        outer: ArrayVec::new(),
     };
-    while 0 < walk.depth {
-        walk = step(s, walk, out);
-    }
-    walk.end
+    while walk.step(s, line).is_some() {}
 }
 
-// The end of a container with nothing left, or the next item.
-fn step(s: &[u8], walk: Walk, out: &mut Text) -> Walk
-    requires { (0 < walk.depth) × (walk.depth ≤ 8) }
-    ensures { Nearer (length s.now) walk result }
-{
-    let top = innermost(walk);
-    if top.left == 0 {
-        return close(walk, top, out);
-    }
-    let at = walk.at;
-    let x = cbor::read_item(s, at);
-    let end = put_item(s, at, x, out, walk.end);
-    if let Next::At(next) = cbor::scalar(x) {
-        return separate(passed(walk, next, end), out);
-    }
-    match x {
-        Item::Array(n, next) => opened(walk, Kind::Array, n, next, end),
-        Item::Set(n, next) => opened(walk, Kind::Set, n, next, end),
-        Item::Map(n, next) => opened(walk, Kind::Map, n, next, end),
-        _ => stopped(walk),
-    }
+// A byte string.
+pub(crate) fn put_bytes(bytes: &[u8], line: &mut Text) {
+    let form = Form::of(bytes);
+    line.put(form.start());
+    form.put_content(bytes, line);
+    line.put(b"'");
 }
 
-// The innermost open container.
-fn innermost(walk: Walk) -> Open
-    requires { (0 < walk.depth) × (walk.depth ≤ 8) }
-{
-    let i = walk.depth - 1;
-    let row = walk.row;
-    row[i]
-}
-
-// The walk behind an item, of a container that has one left: then it has one less.
-fn passed(walk: Walk, next: usize, end: usize) -> Walk
-    requires { (0 < walk.depth) × (walk.depth ≤ 8) }
-    ensures { (result.at ≡ next) × (result.depth ≡ walk.depth) }
-{
-    let i = walk.depth - 1;
-    let mut row = walk.row;
-    let top = row[i];
-    let kind = top.kind;
-    row[i] = Open {
-        kind,
-        left: std::num::wrapping_sub_u64(top.left, 1),
-    };
-    Walk {
-        at: next,
-        end,
-        depth: walk.depth,
-        row,
-    }
-}
-
-// The walk in a container of so many elements or pairs, the first of which stands at `next`.
-fn opened(walk: Walk, kind: Kind, count: u64, next: usize, end: usize) -> Walk
-    requires { (0 < walk.depth) × (walk.depth ≤ 8) }
-    ensures { (result.at ≡ next) × (result.depth ≤ walk.depth + 1) × (result.depth ≤ 8) }
-{
-    let outer = passed(walk, next, end);
-    let depth = outer.depth;
-    if 8 <= depth {
-        return stopped(outer);
-    }
-    let mut row = outer.row;
-    row[depth] = opening(kind, count);
-    Walk {
-        at: next,
-        end,
-        depth: depth + 1,
-        row,
-    }
-}
-
-// The walk behind the end of the innermost container.
-fn close(walk: Walk, top: Open, out: &mut Text) -> Walk
-    requires { (0 < walk.depth) × (walk.depth ≤ 8) }
-    ensures { (result.at ≡ walk.at) × (result.depth + 1 ≡ walk.depth) }
-{
-    let kind = top.kind;
-    let mut outer = walk;
-    outer.end = put_sign(end_of(kind), out, walk.end);
-    outer.depth = walk.depth - 1;
-    separate(outer, out)
-}
-
-// The walk behind what stands between an item and the next one of its container.
-fn separate(walk: Walk, out: &mut Text) -> Walk
-    requires { walk.depth ≤ 8 }
-    ensures { (result.at ≡ walk.at) × (result.depth ≡ walk.depth) }
-{
-    if walk.depth == 0 {
-        return walk;
-    }
-    let top = innermost(walk);
-    let mut next = walk;
-    next.end = put_sign(separator(top), out, walk.end);
-    next
-}
-
-// The walk at its end.
-fn stopped(walk: Walk) -> Walk
-    ensures { (result.at ≡ walk.at) × (result.depth ≡ 0) }
-{
-    let mut next = walk;
-    next.depth = 0;
-    next
-}
-
-// A container of so many elements or pairs, before its first item. A map of bytes that pass the check has far fewer than 2^63 pairs.
-fn opening(kind: Kind, count: u64) -> Open {
-    match kind {
-        Kind::Map => Open {
-            kind,
-            left: std::num::wrapping_add_u64(count, count),
-        },
-        _ => Open { kind, left: count },
-    }
-}
-
-// A scalar, or the start of a container; nothing for what is refused. The item stands at `at`.
-fn put_item(s: &[u8], at: usize, x: Item, out: &mut Text, end: usize) -> usize {
-    match x {
-        Item::Unsigned(n, _) => text::put_decimal(n, out, end),
-        Item::Negative(n, _) => text::put_negative(n, out, end),
-        Item::Bytes(start, stop) => put_bytes(keys::part(s, start, stop), out, end),
-        _ => put_sign(start_of(x, frame::byte_at(s, at)), out, end),
-    }
-}
-
-// A fixed part of the notation, by its row; nothing behind the last one.
-fn put_sign(row: usize, out: &mut Text, at: usize) -> usize {
-    words::put_row(
-        b"false\n\
-          true\n\
-          null\n\
-          [\n\
-          258([\n\
-          {\n\
-          ]\n\
-          ])\n\
-          }\n\
-          , \n\
-          : \n",
-        row,
-        out,
-        at,
-    )
-}
-
-// The row of a simple value, whose byte is `b`, or of a container's start.
-fn start_of(x: Item, b: u8) -> usize {
-    match x {
-        Item::Simple(_) => simple(b),
-        Item::Array(_, _) => 3,
-        Item::Set(_, _) => 4,
-        Item::Map(_, _) => 5,
-        _ => 11,
-    }
-}
-
-fn simple(b: u8) -> usize {
+// A simple value, by its byte.
+fn simple(b: u8) -> &'static [u8] {
     match b {
-        0xf4 => 0,
-        0xf5 => 1,
-        _ => 2,
-    }
-}
-
-// The row of a container's end.
-fn end_of(kind: Kind) -> usize {
-    match kind {
-        Kind::Array => 6,
-        Kind::Set => 7,
-        Kind::Map => 8,
-    }
-}
-
-// The row of what stands before the next item of a container, where one is left. Before a map's value that is a colon: with it an odd
-// number of items is left.
-fn separator(open: Open) -> usize {
-    if open.left == 0 {
-        return 11;
-    }
-    let kind = open.kind;
-    match kind {
-        Kind::Map => 9 + (open.left % 2) as usize,
-        _ => 9,
+        0xf4 => b"false",
+        0xf5 => b"true",
+        _ => b"null",
     }
 }

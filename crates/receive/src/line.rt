@@ -1,84 +1,73 @@
-// The lines of records. Each function puts a text into a buffer, and answers the position after it.
+// The lines of records. Each function puts a text behind what a line has.
 use crate::diagnostic;
+use crate::diagnostic::Form;
 use cbor::Item;
-use command_map::Checked;
 use entries::Entry;
 use records::Head;
+use text::Line;
 
 // Room for the longest line of a command, of fewer than 15,000 bytes: a command of 2,048 bytes becomes at most seven times as long. Data
 // may be longer.
-pub(crate) const ROOM: usize = 16384;
-
-pub(crate) type Text = [u8; ROOM];
+pub(crate) type Text = Line<16384>;
 
 // The line of a command that is whole.
-pub(crate) fn put_command(head: Head, command: &[u8], out: &mut Text) -> usize {
-    let a = put_head(head, b"command ", b" data ", out);
-    let b = put_counted(b" loose ", head.loose as u64, out, a);
-    let c = put_call(command, out, b);
-    let d = put_redirect(command, out, c);
-    text::put(b"\n", out, d)
+pub(crate) fn put_command(head: Head, command: &[u8], line: &mut Text) {
+    put_head(head, b"command ", b" data ", line);
+    line.put(b" loose ");
+    line.put_decimal(head.loose as u64);
+    put_call(command, line);
+    put_redirect(command, line);
+    line.put(b"\n");
 }
 
 // The name and the arguments. The channel's commands pass the check: nothing is put of other bytes.
-fn put_call(command: &[u8], out: &mut Text, at: usize) -> usize {
-    let Checked::Command {
-        start,
-        stop,
-        count,
-        first,
-    } = command::check(command)
-    else {
-        return at;
-    };
-    let a = text::put(b" name ", out, at);
-    let b = diagnostic::put_bytes(keys::part(command, start, stop), out, a);
-    let c = text::put(b" args ", out, b);
-    diagnostic::put_map(command, count, first, out, c)
+fn put_call(command: &[u8], line: &mut Text) {
+    if let Ok(call) = command::check(command) {
+        line.put(b" name ");
+        diagnostic::put_bytes(keys::part(command, call.start, call.stop), line);
+        line.put(b" args ");
+        diagnostic::put_map(command, call.count, call.first, line);
+    }
 }
 
 // The value of `redirect`, if the command has one.
-fn put_redirect(command: &[u8], out: &mut Text, at: usize) -> usize {
-    let Item::Map(n, from) = cbor::read_item(command, 0) else {
-        return at;
-    };
-    let Entry::Keyed {
-        start: _,
-        stop,
-        next: _,
-    } = entries::find_key(command, 7, b"redirect", n, from)
-    else {
-        return at;
-    };
-    let Item::Map(count, first) = cbor::read_item(command, stop) else {
-        return at;
-    };
-    let a = text::put(b" redirect ", out, at);
-    diagnostic::put_map(command, count, first, out, a)
+fn put_redirect(command: &[u8], line: &mut Text) {
+    if let Some((count, first)) = redirect(command) {
+        line.put(b" redirect ");
+        diagnostic::put_map(command, count, first, line);
+    }
 }
 
-// The line of a request's data up to its first byte. The bytes are to stand as text, or in hex.
-pub(crate) fn put_data_start(head: Head, length: usize, as_text: bool, out: &mut Text) -> usize {
-    let a = put_head(head, b"data ", b" last ", out);
-    let b = put_counted(b" ", length as u64, out, a);
-    let c = text::put(b" bytes ", out, b);
-    diagnostic::put_start(as_text, out, c)
+// How many pairs the value of `redirect` has, and where the first stands.
+fn redirect(command: &[u8]) -> Option<(u64, usize)> {
+    let (n, from) = map_at(command, 0)?;
+    match entries::find_key(command, 7, b"redirect", n, from)? {
+        Entry::Keyed { stop, .. } => map_at(command, stop),
+        Entry::Other(_) => None,
+    }
 }
 
-// The line of a request's data from its last bytes on.
-pub(crate) fn put_data_end(bytes: &[u8], as_text: bool, out: &mut Text, at: usize) -> usize {
-    let a = diagnostic::put_content(bytes, as_text, out, at);
-    text::put(b"'\n", out, a)
+// How many pairs the map at a position has, and where the first stands.
+fn map_at(s: &[u8], at: usize) -> Option<(u64, usize)> {
+    match cbor::read_item(s, at)? {
+        Item::Map(count, first) => Some((count, first)),
+        _ => None,
+    }
+}
+
+// The line of a request's data up to its first byte.
+pub(crate) fn put_data_start(head: Head, length: usize, form: Form, line: &mut Text) {
+    put_head(head, b"data ", b" last ", line);
+    line.put(b" ");
+    line.put_decimal(length as u64);
+    line.put(b" bytes ");
+    line.put(form.start());
 }
 
 // A record's request and bit, each behind its words.
-fn put_head(head: Head, first: &[u8], second: &[u8], out: &mut Text) -> usize {
-    let a = put_counted(first, head.request as u64, out, 0);
-    put_counted(second, head.bit as u64, out, a)
-}
-
-// Words, and a number behind them.
-fn put_counted(words: &[u8], n: u64, out: &mut Text, at: usize) -> usize {
-    let a = text::put(words, out, at);
-    text::put_decimal(n, out, a)
+fn put_head(head: Head, first: &[u8], second: &[u8], line: &mut Text) {
+    line.put(first);
+    line.put_decimal(head.request as u64);
+    line.put(second);
+    line.put_decimal(head.bit as u64);
 }

@@ -8,7 +8,7 @@ mod line;
 mod say;
 mod words;
 
-use files::Source;
+use files::{Source, Word};
 use input::Input;
 
 fn main(rt: HostRuntime) {
@@ -17,10 +17,8 @@ fn main(rt: HostRuntime) {
         take_standard(&rt);
         return;
     }
-    let mut i: usize = 1;
-    while i < count {
+    for i in 1..count {
         take_argument(&rt, i, 2 < count);
-        i += 1;
     }
 }
 
@@ -28,44 +26,40 @@ fn main(rt: HostRuntime) {
 fn take_standard(rt: &HostRuntime) {
     let mut input = Input {
         source: Source::Standard(rt.stdin()),
+        name: b"",
         is_titled: false,
     };
-    input::take_input(&mut input, b"", rt);
+    input::take_input(&mut input, rt);
 }
 
 // Does what an argument asks. One that is empty, or longer than a path, is no name.
+// Stays beside the like functions of convert: one for both would be handed the help, the name, the outputs and what is done with a file.
 fn take_argument(rt: &HostRuntime, i: usize, is_titled: bool) {
-    let mut word = [0u8; files::WORD];
-    match files::arg(rt, i, &mut word) {
-        Ok(n) => take_word(rt, keys::part(&word, 0, n), is_titled),
+    match Word::of(rt, i) {
+        Ok(word) => take_word(rt, word.as_slice(), is_titled),
         Err(error) => files::say_nameless(rt, i, error),
     }
 }
 
 // An option, or a file's name.
 fn take_word(rt: &HostRuntime, word: &[u8], is_titled: bool) {
-    if files::is_option(word) {
-        answer(rt, word);
-        return;
+    match word {
+        b"--help" => say::say_help(rt),
+        _ if files::is_option(word) => files::say_unknown(rt, word, b"receive"),
+        _ => take_file(rt, word, is_titled),
     }
-    take_file(rt, word, is_titled);
-}
-
-// Writes what an option asks for.
-fn answer(rt: &HostRuntime, option: &[u8]) {
-    if keys::same_key(option, b"--help") {
-        say::say_help(rt);
-        return;
-    }
-    files::say_unknown(rt, option, b"receive");
 }
 
 // Opens a file, takes what is in it and closes it. Standard input stays open, for an argument behind.
 fn take_file(rt: &HostRuntime, name: &[u8], is_titled: bool) {
     match files::opened(rt, rt.stdin(), name) {
         Ok(source) => {
-            let mut input = Input { source, is_titled };
-            input::take_input(&mut input, name, rt);
+            let mut input = Input {
+                source,
+                name,
+                is_titled,
+            };
+            input::take_input(&mut input, rt);
             let source = input.source;
             source.close();
         }

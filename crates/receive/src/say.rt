@@ -1,58 +1,54 @@
 // Writes to standard output. A record's line goes there by one call, or, where it is long data, by some; the other lines, of which there
 // are few, go in parts.
+use crate::diagnostic::Form;
 use crate::line::Text;
-use crate::{diagnostic, line, words};
+use crate::{line, words};
 use records::Head;
+use std::io;
 use std::io::Print;
 
 // How many bytes of data are put into a text at a time: of a whole text less than half, since a byte may become two hex digits, and the
 // line's start and end stand there too.
 const PIECE: usize = 8000;
 
-// Writes the line of a record, where there is one, and answers whether the output took it.
-pub(crate) fn say_record(record: &[u8], output: &impl Print) -> bool {
-    if record.len() == 0 {
-        return true;
+// Writes the line of a record, where there is one.
+pub(crate) fn say_record(record: &[u8], output: &impl Print) -> io::Result<()> {
+    if record.is_empty() {
+        return Ok(());
     }
     let head = records::read_head(record);
     let content = records::content(record);
-    let mut text = [0u8; line::ROOM];
+    let mut line = Text::new();
     if head.kind == 1 {
-        let n = line::put_command(head, content, &mut text);
-        return say_front(&text, n, output);
+        line::put_command(head, content, &mut line);
+        return output.write_all(line.as_slice());
     }
-    say_data(head, content, &mut text, output)
+    say_data(head, content, &mut line, output)
 }
 
-// Writes the line of a request's data, which may be longer than a text, and answers whether the output took it. Whether the data stands as
-// text or in hex is known of all of it before the first byte is written.
-fn say_data(head: Head, data: &[u8], text: &mut Text, output: &impl Print) -> bool {
-    let as_text = diagnostic::is_text(data);
-    let mut n = line::put_data_start(head, data.len(), as_text, text);
-    let mut i: usize = 0;
-    while PIECE < data.len() - i {
-        n = diagnostic::put_content(&data[i..i + PIECE], as_text, text, n);
-        if !say_front(text, n, output) {
-            return false;
+// Writes the line of a request's data, which may be longer than a text. Whether the data stands as text or in hex is known of all of it
+// before the first byte is written.
+fn say_data(head: Head, data: &[u8], line: &mut Text, output: &impl Print) -> io::Result<()> {
+    let form = Form::of(data);
+    line::put_data_start(head, data.len(), form, line);
+    for (i, piece) in data.chunks(PIECE).enumerate() {
+        if 0 < i {
+            output.write_all(line.as_slice())?;
+            line.clear();
         }
-        n = 0;
-        i += PIECE;
+        form.put_content(piece, line);
     }
-    n = line::put_data_end(&data[i..], as_text, text, n);
-    say_front(text, n, output)
-}
-
-// Writes the first n bytes of a text, and answers whether the output took them.
-fn say_front(text: &Text, n: usize, output: &impl Print) -> bool {
-    files::write(output, keys::part(text, 0, n))
+    line.put(b"'\n");
+    output.write_all(line.as_slice())
 }
 
 // Writes what was refused, by its number and the count of bytes taken, the last of which was judged.
 pub(crate) fn say_refusal(number: u8, place: u64, output: &impl Print) {
     say_counted(b"refused ", number as u64, output);
-    say_counted(b" at byte ", std::num::wrapping_sub_u64(place, 1), output);
+    say_counted(b" at byte ", place.wrapping_sub(1), output);
     say(b": ", output);
-    words::say_refused(number, output);
+    say(words::refusal(number), output);
+    say(b"\n", output);
 }
 
 // Writes how much there is of a frame that the input ends in.
@@ -97,6 +93,6 @@ fn say_counted(words: &[u8], n: u64, output: &impl Print) {
 }
 
 // Writes a text.
-pub(crate) fn say(text: &[u8], output: &impl Print) {
+fn say(text: &[u8], output: &impl Print) {
     files::write(output, text);
 }

@@ -6,6 +6,7 @@ ghost use Rattle.records.specs.Records.{number_at, head_of, runs};
 
 // The numbers in front of a record. The bit is the data bit of a command (kind 1) and the last bit of data (kind 2); `loose` is 1 where a
 // command is written loosely, one of its heads not the shortest, and 0 for data.
+// Stays in numbers: any two bytes may stand where the kind does, and `AllReadBack` speaks of every kind, bit and mark.
 #[derive(Clone, Copy)]
 pub struct Head {
     pub kind: u16,
@@ -51,7 +52,5 @@ fn number_at(s: &[u8], i: usize) -> u16
     requires { i < 8 }
     ensures { result ≡ number_at s.now i }
 {
-    let low = frame::byte_at(s, i) as u16;
-    let high = frame::byte_at(s, i + 1) as u16;
-    low + 256 * high
+    u16::from_le_bytes([frame::byte_at(s, i), frame::byte_at(s, i + 1)])
 }

@@ -1,3 +1,4 @@
 -- What the proofs of several functions use.
-pub mod Loops
+pub mod PhaseLaws
+pub mod Search
 pub mod UsedLaws

@@ -1,9 +1,10 @@
 -- The phases of a request, and a slot that holds none. A phase is told by its number, so that a further phase is one line here.
 -- These are definitions: they assume nothing.
-use Rattle.std.specs.Prelude.{ℕ, Bool, false, ◌||◌, eqb}
+use Rattle.std.specs.Prelude.{ℕ, ◌<◌, ◌≡◌, Bool, false, ◌||◌, eqb, Result, MatchResult}
 use Rattle.requests.specs.declared.Phase.{Phase}
 use Rattle.requests.specs.declared.Phase.TheVariants.{Free, Collecting, Waiting, Running, Draining}
 use Rattle.requests.specs.declared.Slot.{Slot}
+use Rattle.requests.specs.declared.NoPhase.{NoPhase}
 
 unfoldable pub code : Phase → ℕ
 code Free = 0
@@ -11,6 +12,10 @@ code Collecting = 1
 code Waiting = 2
 code Running = 3
 code Draining = 4
+
+-- the phase with this number, or an error with a number that no phase has
+abbrev pub Decodes : ℕ → Result Phase NoPhase → Type 0
+Decodes n r = MatchResult r (λ p. code p ≡ n) (λ e. (e.0 ≡ n) × (4 < n))
 
 unfoldable pub is_phase : Phase → Phase → Bool
 is_phase p q = eqb (code q) (code p)

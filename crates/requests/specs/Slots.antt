@@ -1,14 +1,12 @@
 -- Slots: which phase one is in, the first that passes a test, what rule 3 asks of them, and how many are used.
 -- These are definitions: they assume nothing.
-use Rattle.std.specs.Prelude.{ℕ, suc, ◌+◌, Bool, true, false, cond, ◌&&◌, ◌||◌, not, List, [], ◌∷◌, leb, eqb}
-use Rattle.frame.specs.Limits.{max_command}
+use Rattle.std.specs.Prelude.{ℕ, suc, ◌+◌, Bool, true, false, cond, ◌&&◌, ◌||◌, not, List, [], ◌∷◌, leb, ltb, eqb, Option, Some, None}
+use Rattle.frame.specs.Limits.{max_command, slot_count}
 use Rattle.frame.specs.Frame.{Frame, is_even, is_more, data_follows, is_last}
 use Rattle.frame.specs.Records.{bit}
 use Rattle.requests.specs.declared.Phase.{Phase}
 use Rattle.requests.specs.declared.Phase.TheVariants.{Free, Collecting, Waiting, Running, Draining}
 use Rattle.requests.specs.declared.Slot.{Slot}
-use Rattle.requests.specs.declared.Want.{Want}
-use Rattle.requests.specs.declared.Want.TheVariants.{Used, Unused}
 use Rattle.requests.specs.Phases.{is_phase, free_slot}
 
 abbrev pub in_phase : Phase → Slot → Bool
@@ -19,14 +17,13 @@ unfoldable pub first_slot : (Slot → Bool) → List Slot → ℕ
 first_slot test [] = 0
 first_slot test (x ∷ xs) = cond (test x) 0 (suc (first_slot test xs))
 
+-- a place among the slots; none where it is their number
+abbrev pub place_at : ℕ → Option ℕ
+place_at n = cond (ltb n slot_count) (Some n) None
+
 -- a used slot of that id
 unfoldable pub is_id : ℕ → Slot → Bool
 is_id id x = not (in_phase Free x) && eqb x.id id
-
--- what is looked for: a used slot of an id, or a free slot
-abbrev pub meets : Want → Slot → Bool
-meets (Used id) x = is_id id x
-meets Unused x = in_phase Free x
 
 -- what a slot of each phase holds
 unfoldable pub slot_fits : Slot → Bool

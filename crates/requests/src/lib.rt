@@ -1,16 +1,16 @@
 // Requests: their phases, and the slots that hold them.
 #![tactic(auto)]
 
-ghost use Rattle.std.specs.Prelude.{◌≡◌, ◌&&◌, eqb, [], drop, get_or, set};
+ghost use Rattle.std.specs.Prelude.{◌≡◌, ◌&&◌, eqb, [], get_or, set};
 ghost use Rattle.frame.specs.Frame.{framed, is_even};
-ghost use Rattle.requests.specs.Phases.{code, is_phase, takes_data, can_finish, free_slot};
-ghost use Rattle.requests.specs.Slots.{in_phase, first_slot, enter, is_id, meets, slot_fits, id_in, apart, slots_fit, used_bit, used_count, collected, data_slot, finish_slot};
+ghost use Rattle.requests.specs.Phases.{code, Decodes, takes_data, can_finish, free_slot};
+ghost use Rattle.requests.specs.Slots.{in_phase, place_at, first_slot, enter, is_id, slot_fits, id_in, apart, slots_fit, used_bit, used_count, collected, data_slot, finish_slot};
 
 use frame::Header;
 
 // A request is collecting (its command isn't whole), waiting for data, running, or draining (finished before its data has all come).
 // A free slot holds none.
-#[derive(Clone, Copy)]
+#[derive(Clone, Copy, PartialEq, Eq)]
 pub enum Phase {
     Free,
     Collecting,
@@ -20,6 +20,7 @@ pub enum Phase {
 }
 
 // A slot: the request's id, its phase, its data bit, and how many bytes of its command the slot's part of the work area holds.
+// Stays a length: the part lies in the lent work area, of which a state holds nothing.
 #[derive(Clone, Copy)]
 pub struct Slot {
     pub id: u16,
@@ -28,40 +29,51 @@ pub struct Slot {
     pub length: usize,
 }
 
-// What is looked for among the slots: the used one of an id, or a free one.
-#[derive(Clone, Copy)]
-pub enum Want {
-    Used(u16),
-    Unused,
-}
+// A number that no phase has.
+#[derive(Clone, Copy, PartialEq, Eq)]
+pub struct NoPhase(pub u8);
 
 // The number of a phase: 0 free, 1 collecting, 2 waiting, 3 running, 4 draining.
-#[tactic(auto, unfolding(crate::specs::Phases::code))]
-pub fn phase_code(p: Phase) -> u8
-    ensures { result ≡ code p }
-{
-    match p {
-        Phase::Free => 0,
-        Phase::Collecting => 1,
-        Phase::Waiting => 2,
-        Phase::Running => 3,
-        Phase::Draining => 4,
+impl From<Phase> for u8 {
+    ghost from_gives = { λ p n. n ≡ code p };
+
+    #[tactic(auto, unfolding(crate::specs::Phases::code))]
+    fn from(p: Phase) -> u8 {
+        match p {
+            Phase::Free => 0,
+            Phase::Collecting => 1,
+            Phase::Waiting => 2,
+            Phase::Running => 3,
+            Phase::Draining => 4,
+        }
     }
 }
 
-// Whether a phase is this one.
-#[tactic(auto, unfolding(crate::specs::Phases::is_phase))]
-pub fn is_phase(p: Phase, q: Phase) -> bool
-    ensures { result ≡ is_phase p q }
-{
-    phase_code(q) == phase_code(p)
+// The phase of a number.
+impl TryFrom<u8> for Phase {
+    type Error = NoPhase;
+
+    ghost try_from_gives = { Decodes };
+
+    #[tactic(auto, unfolding(crate::specs::Phases::code))]
+    fn try_from(n: u8) -> Result<Phase, NoPhase> {
+        match n {
+            0 => Ok(Phase::Free),
+            1 => Ok(Phase::Collecting),
+            2 => Ok(Phase::Waiting),
+            3 => Ok(Phase::Running),
+            4 => Ok(Phase::Draining),
+            _ => Err(NoPhase(n)),
+        }
+    }
 }
 
 // Whether data is taken for a request in this phase.
+#[tactic(auto, unfolding(crate::specs::Phases::is_phase, crate::specs::Phases::code))]
 pub fn takes_data(p: Phase) -> bool
     ensures { result ≡ takes_data p }
 {
-    is_phase(Phase::Waiting, p) | is_phase(Phase::Draining, p)
+    matches!(p, Phase::Waiting | Phase::Draining)
 }
 
 #[tactic(auto, unfolding(frame::specs::Frame::is_even))]
@@ -89,20 +101,14 @@ impl Slot {
     fn enter(self, phase: Phase) -> Slot
         ensures { result ≡ enter phase self }
     {
-        Slot {
-            id: self.id,
-            phase,
-            databit: self.databit,
-            length: self.length,
-        }
+        Slot { phase, ..self }
     }
 
     // Whether its request is in this phase, Free where it holds none.
     fn in_phase(self, p: Phase) -> bool
         ensures { result ≡ in_phase p self }
     {
-        let phase = self.phase;
-        is_phase(p, phase)
+        self.phase == p
     }
 
     // Whether a used slot holds this id.
@@ -110,10 +116,7 @@ impl Slot {
     fn is_id(self, id: u16) -> bool
         ensures { result ≡ is_id id self }
     {
-        if self.in_phase(Phase::Free) {
-            return false;
-        }
-        self.id == id
+        !self.in_phase(Phase::Free) && self.id == id
     }
 
     // What rule 3 asks of a slot by itself.
@@ -121,8 +124,7 @@ impl Slot {
     fn fits(self) -> bool
         ensures { result ≡ slot_fits self }
     {
-        let phase = self.phase;
-        match phase {
+        match self.phase {
             Phase::Free => (self.id == 0) & !self.databit & (self.length == 0),
             Phase::Collecting => !is_even(self.id) & (self.length <= frame::MAX_COMMAND),
             Phase::Waiting => !is_even(self.id) & self.databit & (self.length == 0),
@@ -131,15 +133,12 @@ impl Slot {
         }
     }
 
-    // Whether no used slot from an index on holds the slot's id.
+    // Whether none of these slots is used and holds the slot's id, or the slot is free.
     #[tactic(auto, unfolding(crate::specs::Slots::apart))]
-    fn is_apart(self, slots: [Slot; 8], from: usize) -> bool
-        ensures { result ≡ apart self (drop from slots) }
+    fn is_apart(self, later: &[Slot]) -> bool
+        ensures { result ≡ apart self later.now }
     {
-        if self.in_phase(Phase::Free) {
-            return true;
-        }
-        !id_in(slots, self.id, from)
+        self.in_phase(Phase::Free) || !id_in(later, self.id)
     }
 
     // 1 for a used slot, 0 for a free one.
@@ -149,41 +148,27 @@ impl Slot {
     {
         frame::bit(!self.in_phase(Phase::Free))
     }
-
-    // Whether the slot is what is looked for.
-    fn meets(self, w: Want) -> bool
-        ensures { result ≡ meets w self }
-    {
-        match w {
-            Want::Used(id) => self.is_id(id),
-            Want::Unused => self.in_phase(Phase::Free),
-        }
-    }
 }
 
-// The index of the first slot that is what is looked for, 8 where none is.
-pub fn find(slots: [Slot; 8], w: Want) -> usize
-    ensures { result ≡ first_slot (meets w) slots }
+// The index of the first used slot of an id.
+pub fn place_of(slots: &[Slot; 8], id: u16) -> Option<usize>
+    ensures { result ≡ place_at (first_slot (is_id id) slots.now) }
 {
-    let mut i = 0;
-    while i < 8 {
-        let s = slots[i];
-        if s.meets(w) {
-            return i;
-        }
-        i += 1;
-    }
-    8
+    slots.iter().position(|s| s.is_id(id))
+}
+
+// The index of the first free slot.
+pub fn lowest_free(slots: &[Slot; 8]) -> Option<usize>
+    ensures { result ≡ place_at (first_slot (in_phase Phase.Free) slots.now) }
+{
+    slots.iter().position(|s| s.in_phase(Phase::Free))
 }
 
 // The slot at an index, a free one where there is none.
-pub fn slot_at(slots: [Slot; 8], i: usize) -> Slot
-    ensures { result ≡ get_or slots i free_slot }
+pub fn slot_at(slots: &[Slot; 8], i: usize) -> Slot
+    ensures { result ≡ get_or slots.now i free_slot }
 {
-    if i < 8 {
-        return slots[i];
-    }
-    Slot::free()
+    slots.get(i).copied().unwrap_or(Slot::free())
 }
 
 // The slots with another one at an index; as they are where there is none.
@@ -197,37 +182,25 @@ pub fn with_slot(slots: [Slot; 8], at: usize, s: Slot) -> [Slot; 8]
     next
 }
 
-// Whether a used slot from an index on holds this id.
-fn id_in(slots: [Slot; 8], id: u16, from: usize) -> bool
-    ensures { result ≡ id_in id (drop from slots) }
+// Whether one of these slots is used and holds this id.
+fn id_in(slots: &[Slot], id: u16) -> bool
+    ensures { result ≡ id_in id slots.now }
 {
-    let mut i = from;
-    while i < 8 {
-        let s = slots[i];
-        if s.is_id(id) {
-            return true;
-        }
-        i += 1;
-    }
-    false
+    slots.iter().any(|s| s.is_id(id))
 }
 
 // What rule 3 asks of the slots and of their count: each fits by itself, no two used ones hold one id, and so many are used.
-pub fn slots_fit(slots: [Slot; 8], count: u8) -> bool
-    ensures { result ≡ (slots_fit slots && eqb count (used_count slots)) }
+pub fn slots_fit(slots: &[Slot; 8], count: u8) -> bool
+    ensures { result ≡ (slots_fit slots.now && eqb count (used_count slots.now)) }
 {
     let mut used: u8 = 0;
-    let mut i = 0;
-    while i < 8 {
-        let s = slots[i];
-        if !s.fits() {
-            return false;
-        }
-        i += 1;
-        if !s.is_apart(slots, i) {
+    let mut rest = &slots[..];
+    while let Some((s, later)) = rest.split_first() {
+        if !s.fits() || !s.is_apart(later) {
             return false;
         }
         used += s.used_bit();
+        rest = later;
     }
     count == used
 }
@@ -237,27 +210,18 @@ pub fn command_slot(h: Header, size: usize) -> Slot
     ensures { result ≡ collected (framed h []) size }
 {
     let databit = h.data_follows();
-    if h.is_more() {
-        return Slot {
-            id: h.request,
-            phase: Phase::Collecting,
-            databit,
-            length: size,
-        };
-    }
-    if databit {
-        return Slot {
-            id: h.request,
-            phase: Phase::Waiting,
-            databit,
-            length: 0,
-        };
-    }
+    let (phase, length) = if h.is_more() {
+        (Phase::Collecting, size)
+    } else if databit {
+        (Phase::Waiting, 0)
+    } else {
+        (Phase::Running, 0)
+    };
     Slot {
         id: h.request,
-        phase: Phase::Running,
+        phase,
         databit,
-        length: 0,
+        length,
     }
 }
 
@@ -276,10 +240,11 @@ pub fn data_slot(x: Slot, h: Header) -> Slot
 }
 
 // Whether finish accepts a request in this phase.
+#[tactic(auto, unfolding(crate::specs::Phases::is_phase, crate::specs::Phases::code))]
 pub fn can_finish(p: Phase) -> bool
     ensures { result ≡ can_finish p }
 {
-    is_phase(Phase::Waiting, p) | is_phase(Phase::Running, p)
+    matches!(p, Phase::Waiting | Phase::Running)
 }
 
 // A request's slot after a finish that is accepted.

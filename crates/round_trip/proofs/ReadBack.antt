@@ -1,6 +1,7 @@
 -- The command read back has its name and its arguments: the check finds the name's place and the first pair's, and the pairs read behind
 -- what stands before them as they read alone. Its mark is that of the pairs: the scan passes the heads that the sender writes.
 -- Assumes nothing.
+use Rattle.std.specs.Prelude.{Option, None, Some, Result, Ok, Err}
 use Prim.Native.Nat.{ℕ, ◌+◌, ◌^◌, ◌<◌}
 use mathlib.Core.Path.{◌≡◌, refl, sym, ap, ◌∙◌}
 use mathlib.Core.Bool.{Bool, true, false, cond}
@@ -8,19 +9,20 @@ use mathlib.Core.List.{List, ◌++◌}
 use native.Mathlib.Omega.{arith}
 use lib.ListN.{length}
 use Rattle.cbor.specs.declared.Item.{Item}
-use Rattle.cbor.specs.declared.Item.TheVariants.{Unsigned, Negative, Bytes, Simple, Array, Map, Set, Refused}
+use Rattle.cbor.specs.declared.Item.TheVariants.{Unsigned, Negative, Bytes, Simple, Array, Map, Set}
 use Rattle.cbor.specs.Cbor.{item_at, whole}
 use Rattle.cbor.proofs.Shift.{shifted_item, item_shift}
 use Rattle.entries.specs.declared.Entry.{Entry}
-use Rattle.entries.specs.declared.Entry.TheVariants.{Keyed, Other, Broken}
+use Rattle.entries.specs.declared.Entry.TheVariants.{Keyed, Other}
 use Rattle.double_keys.specs.declared.Keys.{Keys}
 use Rattle.double_keys.specs.declared.Keys.TheVariants.{Single, Double, Others}
 use Rattle.entries.specs.Entries.{entries, find}
 use Rattle.double_keys.specs.DoubleKeys.{keys_of}
-use Rattle.entries.proofs.Shift.{shifted_entry, entries_shift, find_shift, part_shift}
-use Rattle.command_map.specs.declared.Checked.TheVariants.{Command, NotItem, NotCommand}
+use Rattle.entries.proofs.Shift.{shifted_some, entries_shift, find_shift, part_shift}
+use Rattle.command_map.specs.declared.Command.{Command}
+use Rattle.command_map.specs.declared.Refusal.TheVariants.{NotItem, NotCommand}
 use Rattle.command.specs.declared.Place.{Place}
-use Rattle.command.specs.declared.Place.TheVariants.{Found, NotFound}
+use Rattle.command.specs.declared.LookupError.{LookupError}
 use Rattle.command.specs.Command.{checked, number_of}
 use Rattle.command.specs.Lookup.{place_number, place_of, signed_of, name_of, count_of, mark_of, argument_at, part_at, integer_in, integer_at}
 use Rattle.loose.specs.Scan.{scanned}
@@ -35,37 +37,37 @@ use Rattle.round_trip.specs.ReadBack.{place_in, loose_pairs, ReadsBack, ReadBack
 
 -- ---- a place behind a prefix
 
-abbrev shifted_place : ℕ → Place → Place
-shifted_place n (Found start stop) = Found (n + start) (n + stop)
-shifted_place n (NotFound number) = NotFound number
+abbrev shifted_place : ℕ → Result Place LookupError → Result Place LookupError
+shifted_place n (Ok p) = Ok (record { start = n + p.start; stop = n + p.stop })
+shifted_place n (Err e) = Err e
 
-place_shift : (n : ℕ) (e : Entry) → place_of (shifted_entry n e) ≡ shifted_place n (place_of e)
-place_shift n (Keyed start stop next) = refl
-place_shift n (Other next) = refl
-place_shift n Broken = refl
+place_shift : (n : ℕ) (e : Option Entry) → place_of (shifted_some n e) ≡ shifted_place n (place_of e)
+place_shift n (Some (Keyed start stop next)) = refl
+place_shift n (Some (Other next)) = refl
+place_shift n None = refl
 
-number_shift : (n : ℕ) (x : Place) → place_number (shifted_place n x) ≡ place_number x
-number_shift n (Found start stop) = refl
-number_shift n (NotFound number) = refl
+number_shift : (n : ℕ) (x : Result Place LookupError) → place_number (shifted_place n x) ≡ place_number x
+number_shift n (Ok p) = refl
+number_shift n (Err e) = refl
 
-signed_shift : (n : ℕ) (x : Item) → signed_of (shifted_item n x) ≡ signed_of x
-signed_shift n (Unsigned v next) = refl
-signed_shift n (Negative v next) = refl
-signed_shift n (Bytes start stop) = refl
-signed_shift n (Simple next) = refl
-signed_shift n (Array k at) = refl
-signed_shift n (Map k at) = refl
-signed_shift n (Set k at) = refl
-signed_shift n Refused = refl
+signed_shift : (n : ℕ) (x : Option Item) → signed_of (shifted_item n x) ≡ signed_of x
+signed_shift n (Some (Unsigned v next)) = refl
+signed_shift n (Some (Negative v next)) = refl
+signed_shift n (Some (Bytes start stop)) = refl
+signed_shift n (Some (Simple next)) = refl
+signed_shift n (Some (Array k at)) = refl
+signed_shift n (Some (Map k at)) = refl
+signed_shift n (Some (Set k at)) = refl
+signed_shift n None = refl
 
 module _ (p s : List ℕ) where
-  value_shift : (x : Place) → part_at (p ++ s) (shifted_place (length p) x) ≡ part_at s x
-  value_shift (Found start stop) = part_shift p s start stop
-  value_shift (NotFound number) = refl
+  value_shift : (x : Result Place LookupError) → part_at (p ++ s) (shifted_place (length p) x) ≡ part_at s x
+  value_shift (Ok q) = part_shift p s q.start q.stop
+  value_shift (Err e) = refl
 
-  integer_shift : (x : Place) → integer_in (p ++ s) (shifted_place (length p) x) ≡ integer_in s x
-  integer_shift (Found start stop) = ap signed_of (item_shift p s start) ∙ signed_shift (length p) (item_at s start)
-  integer_shift (NotFound number) = refl
+  integer_shift : (x : Result Place LookupError) → integer_in (p ++ s) (shifted_place (length p) x) ≡ integer_in s x
+  integer_shift (Ok q) = ap signed_of (item_shift p s q.start) ∙ signed_shift (length p) (item_at s q.start)
+  integer_shift (Err e) = refl
 
   found_shift : (count : ℕ) (key : List ℕ) → place_of (find (p ++ s) key (entries (p ++ s) 6 count (length p))) ≡ shifted_place (length p) (place_in s count key)
   found_shift count key =
@@ -76,18 +78,18 @@ module _ (p s : List ℕ) where
 
 -- ---- a command that passes the check
 
-passes : (w f : Bool) (k : Keys) (start stop count first : ℕ) → let c = cond w (cond f (by_keys k (Command start stop count first)) NotCommand) NotItem in
-    number_of c ≡ 0 → c ≡ Command start stop count first
-passes true true Single start stop count first h = refl
-passes true true Double start stop count first h = never 25 h
-passes true true Others start stop count first h = never 24 h
-passes true false k start stop count first h = never 24 h
-passes false f k start stop count first h = never 23 h
+passes : (w f : Bool) (k : Keys) (c : Command) → let r = cond w (cond f (by_keys k (Ok c)) (Err NotCommand)) (Err NotItem) in
+    number_of r ≡ 0 → r ≡ Ok c
+passes true true Single c h = refl
+passes true true Double c h = never 25 h
+passes true true Others c h = never 24 h
+passes true false k c h = never 24 h
+passes false f k c h = never 23 h
 
 -- the pairs of such a command are read to their end
-to_end : (w f : Bool) (k : Keys) (start stop count first : ℕ) → number_of (cond w (cond f (by_keys k (Command start stop count first)) NotCommand) NotItem) ≡ 0 → w ≡ true
-to_end true f k start stop count first h = refl
-to_end false f k start stop count first h = never 23 h
+to_end : (w f : Bool) (k : Keys) (c : Command) → number_of (cond w (cond f (by_keys k (Ok c)) (Err NotCommand)) (Err NotItem)) ≡ 0 → w ≡ true
+to_end true f k c h = refl
+to_end false f k c h = never 23 h
 
 -- the heads before the pairs are shortest
 own-passed : (name pairs : List ℕ) (count : ℕ) → length name < 2 ^ 64 → count < 2 ^ 64 → scanned (command_bytes name pairs count) ≡ scanned pairs
@@ -104,17 +106,20 @@ module _ (name pairs : List ℕ) (count : ℕ) (hn : length name < 2 ^ 64) (hc :
   abbrev s : List ℕ
   s = command_bytes name pairs count
 
-  check : checked s ≡ Command (name_start name) (name_stop name) count (first_pair name count)
+  abbrev parts : Command
+  parts = record { start = name_start name; stop = name_stop name; count = count; first = first_pair name count }
+
+  check : checked s ≡ Ok parts
   unfolding parts_checked
   check =
       let e = checked-by_parts name pairs count hn hc in
-      e ∙ passes (whole pairs (pairs_end pairs count)) (name_fits name) (keys_of pairs (entries pairs 6 count 0)) (name_start name) (name_stop name) count (first_pair name count) (rw e at h)
+      e ∙ passes (whole pairs (pairs_end pairs count)) (name_fits name) (keys_of pairs (entries pairs 6 count 0)) parts (rw e at h)
 
   read : whole pairs (pairs_end pairs count) ≡ true
   unfolding parts_checked
   read =
       let e = checked-by_parts name pairs count hn hc in
-      to_end (whole pairs (pairs_end pairs count)) (name_fits name) (keys_of pairs (entries pairs 6 count 0)) (name_start name) (name_stop name) count (first_pair name count) (rw e at h)
+      to_end (whole pairs (pairs_end pairs count)) (name_fits name) (keys_of pairs (entries pairs 6 count 0)) parts (rw e at h)
 
   mark : mark_of s ≡ cond (loose_pairs pairs count) 1 0
   unfolding pairs_end

@@ -1,16 +1,17 @@
 -- The command read back has that name and those arguments, and the mark of the pairs (E5). Proved in proofs/ReadBack.antt.
 -- These are definitions: they assume nothing.
-use Rattle.std.specs.Prelude.{ℕ, ◌<◌, ◌^◌, ◌≡◌, Bool, cond, List, length}
+use Rattle.std.specs.Prelude.{ℕ, ◌<◌, ◌^◌, ◌≡◌, Bool, cond, List, length, Result}
 use Rattle.cbor.specs.Cbor.{pair, value}
 use Rattle.loose.specs.Loose.{any_of, loose_pair, loose}
 use Rattle.entries.specs.Entries.{entries, find}
 use Rattle.command.specs.declared.Place.{Place}
+use Rattle.command.specs.declared.LookupError.{LookupError}
 use Rattle.command.specs.Command.{checked, number_of}
 use Rattle.command.specs.Lookup.{place_of, place_number, name_of, count_of, mark_of, argument_at, part_at, integer_in, integer_at}
 use Rattle.sender.specs.Parts.{command_bytes}
 
 -- where the value of an argument stands in the pairs; 6 where no key is this one
-abbrev pub place_in : List ℕ → ℕ → List ℕ → Place
+abbrev pub place_in : List ℕ → ℕ → List ℕ → Result Place LookupError
 place_in pairs count key = place_of (find pairs key (entries pairs 6 count 0))
 
 -- one of the heads in the pairs is not the shortest

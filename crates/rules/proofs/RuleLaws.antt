@@ -1,5 +1,5 @@
 -- Rules by their numbers: what the first broken rule tells of the others. Assumes nothing.
-use Prim.Native.Nat.{ℕ, zero, suc, ◌≤◌}
+use Prim.Native.Nat.{ℕ, suc, ◌≤◌}
 use mathlib.Core.Path.{◌≡◌, refl}
 use mathlib.Core.Bool.{Bool, true, false, cond, ◌&&◌, false≢true}
 use mathlib.Core.List.{List, [], ◌∷◌, ◌++◌}
@@ -8,7 +8,10 @@ use borrow.Author.Tests.{eqb-false, leb-true}
 use native.Mathlib.Omega.{arith}
 use Rattle.frame.specs.Frame.{Frame}
 use Rattle.rules.specs.Rules.{View, Rule, first_broken}
-use Rattle.rules.specs.Stages.{tried}
+use Rattle.std.specs.Prelude.{Result, Ok, Err}
+use Rattle.rules.specs.declared.Rule as code
+use Rattle.rules.specs.declared.Rule.TheVariants.{LongPayload, EvenRequest, EvenStream, HighStreamFlag, OtherType, ClosedStream, OpenStream, BrokenFlags, ActiveRequest, NoFreeSlot, NotCollecting, OtherDataBit, LongCommand, NotItem, NotCommand, DoubleKey, NoDataTaken, SettingsNotFirst, NotIdentity}
+use Rattle.rules.specs.Stages.{number_of, broken_of, first_of}
 use Rattle.rules.proofs.Bools.{and_l, and_r}
 
 zero_ne_suc : (n : ℕ) → 0 ≡ suc n → ⊥
@@ -67,34 +70,6 @@ module _ (f : Frame) (v : View) where
       go true ih q = rw q at here
       go false ih q = ih q
 
-  -- ---- the rules tried one after another
-
-  abbrev pub in_turn : List Rule → ℕ → ℕ
-  in_turn [] n = n
-  in_turn (x ∷ xs) n = in_turn xs (tried n (x.broken f v) x.number)
-
-  -- a rule that is broken stays the first
-  stays-first : (xs : List Rule) (n : ℕ) → in_turn xs (suc n) ≡ suc n
-  unfolding tried
-  stays-first [] n = refl
-  stays-first (x ∷ xs) n = stays-first xs n
-
-  stays-broken : (xs : List Rule) (n : ℕ) → 1 ≤ n → in_turn xs n ≡ n
-  stays-broken xs zero h = absurd (none h)
-    where
-      none : 1 ≤ 0 → ⊥
-      none k = omega arith
-  stays-broken xs (suc n) h = stays-first xs n
-
-  pub in_turn_lem : (xs : List Rule) (lo hi : ℕ) → 1 ≤ lo → within lo hi xs ≡ true → in_turn xs 0 ≡ first_broken xs f v
-  unfolding first_broken tried
-  in_turn_lem [] lo hi l h = refl
-  in_turn_lem (x ∷ xs) lo hi l h = go (x.broken f v) (in_turn_lem xs lo hi l (and_r (leb lo x.number && leb x.number hi) (within lo hi xs) h))
-    where
-      go : (t : Bool) → in_turn xs 0 ≡ first_broken xs f v → in_turn xs (cond t x.number 0) ≡ elim t [ true ↦ x.number | false ↦ first_broken xs f v ]
-      go true ih = stays-broken xs x.number (counts x xs lo hi l h)
-      go false ih = ih
-
   -- where the first rules hold, the others tell
   pub first_rest : (xs ys : List Rule) (lo hi : ℕ) → 1 ≤ lo → within lo hi xs ≡ true → first_broken xs f v ≡ 0 → first_broken (xs ++ ys) f v ≡ first_broken ys f v
   unfolding first_broken
@@ -118,3 +93,64 @@ module _ (f : Frame) (v : View) where
           → ◌≡◌ {A = ℕ} (elim t as (λ _. ℕ) [ true ↦ x.number | false ↦ first_broken (xs ++ ys) f v ]) (elim t as (λ _. ℕ) [ true ↦ x.number | false ↦ first_broken xs f v ])
       go true ih k = refl
       go false ih k = ih k
+
+-- ---- a table of tests with their rules
+
+-- the tests with their numbers, of a table and of the rules themselves
+abbrev pub numbers : List (Bool × code.Rule) → List (Bool × ℕ)
+numbers [] = []
+numbers (x ∷ xs) = (x.0, number_of x.1) ∷ numbers xs
+
+abbrev pub tests : Frame → View → List Rule → List (Bool × ℕ)
+tests f v [] = []
+tests f v (x ∷ xs) = (x.broken f v, x.number) ∷ tests f v xs
+
+abbrev pub first_number : List (Bool × ℕ) → ℕ
+first_number [] = 0
+first_number (x ∷ xs) = cond x.0 x.1 (first_number xs)
+
+-- one rule more in front
+more : (t : Bool) (r : code.Rule) (later : Result Unit code.Rule) (n : ℕ) → broken_of later ≡ n → broken_of (cond t (Err r) later) ≡ cond t (number_of r) n
+more true r later n e = refl
+more false r later n e = e
+
+pub table-first : (xs : List (Bool × code.Rule)) → broken_of (first_of xs) ≡ first_number (numbers xs)
+unfolding first_of
+table-first [] = refl
+table-first (x ∷ xs) = more x.0 x.1 _ _ (table-first xs)
+
+rule_more : (t : Bool) (n a b : ℕ) → a ≡ b → elim t as (λ _. ℕ) [ true ↦ n | false ↦ a ] ≡ cond t n b
+rule_more true n a b e = refl
+rule_more false n a b e = e
+
+pub rules-first : (f : Frame) (v : View) (xs : List Rule) → first_broken xs f v ≡ first_number (tests f v xs)
+unfolding first_broken
+rules-first f v [] = refl
+rules-first f v (x ∷ xs) = rule_more (x.broken f v) x.number _ _ (rules-first f v xs)
+
+-- ---- an answer and its number
+
+pub number-some : (r : code.Rule) → number_of r ≡ 0 → ⊥
+number-some LongPayload e = cc
+number-some EvenRequest e = cc
+number-some EvenStream e = cc
+number-some HighStreamFlag e = cc
+number-some OtherType e = cc
+number-some ClosedStream e = cc
+number-some OpenStream e = cc
+number-some BrokenFlags e = cc
+number-some ActiveRequest e = cc
+number-some NoFreeSlot e = cc
+number-some NotCollecting e = cc
+number-some OtherDataBit e = cc
+number-some LongCommand e = cc
+number-some NotItem e = cc
+number-some NotCommand e = cc
+number-some DoubleKey e = cc
+number-some NoDataTaken e = cc
+number-some SettingsNotFirst e = cc
+number-some NotIdentity e = cc
+
+pub ok-zero : (r : Result Unit code.Rule) → ((e : code.Rule) → r ≡ Err e → ⊥) → broken_of r ≡ 0
+ok-zero (Ok u) h = refl
+ok-zero (Err e) h = absurd (h e refl)

@@ -1,5 +1,6 @@
 -- The rules by their stages: what the first twelve leave to the others, and what the others say of each kind of frame.
 -- Assumes nothing.
+use Rattle.std.specs.Prelude.{Ok, Err}
 use Prim.Native.Nat.{ℕ, zero, suc, ◌≤◌, ◌<◌}
 use mathlib.Core.Path.{◌≡◌, refl, sym, ◌∙◌}
 use mathlib.Core.Bool.{Bool, true, false, cond, ◌&&◌, not, false≢true, true≢false}
@@ -8,8 +9,8 @@ use native.Mathlib.Omega.{arith}
 use lib.ListN.{drop}
 use lib.Dec.{eqb}
 use borrow.Author.Tests.{eqb-true}
-use Rattle.command_map.specs.declared.Checked.{Checked}
-use Rattle.command_map.specs.declared.Checked.TheVariants.{Command, NotItem, NotCommand, DoubleKey}
+use Rattle.command_map.specs.declared.Refusal.TheVariants.{NotItem, NotCommand, DoubleKey}
+use Rattle.command_map.specs.CommandMap.{Checked}
 use Rattle.command.specs.Command.{checked, number_of}
 use Rattle.frame.specs.Frame.{Frame, is_type, is_more}
 use Rattle.rules.specs.Rules.{View, is_command, check_of, judged, rules, first_broken}
@@ -30,17 +31,17 @@ three_no false k rest e = refl
 
 three-yes : (t : Bool) (c : Checked) (rest : ℕ) → t ≡ true → rest ≡ 0 → three t (number_of c) rest ≡ number_of c
 three-yes false c rest e q = absurd (false≢true e)
-three-yes true (Command start stop count first) rest e q = q
-three-yes true NotItem rest e q = refl
-three-yes true NotCommand rest e q = refl
-three-yes true DoubleKey rest e q = refl
+three-yes true (Ok c) rest e q = q
+three-yes true (Err NotItem) rest e q = refl
+three-yes true (Err NotCommand) rest e q = refl
+three-yes true (Err DoubleKey) rest e q = refl
 
 -- the number of a command that is refused
 three_range : (c : Checked) (n : ℕ) → number_of c ≡ n → (n ≡ 0 → ⊥) → (24 ≤ n) × (n ≤ 26)
-three_range (Command start stop count first) n e h = absurd (h (sym e))
-three_range NotItem n e h = omega arith
-three_range NotCommand n e h = omega arith
-three_range DoubleKey n e h = omega arith
+three_range (Ok c) n e h = absurd (h (sym e))
+three_range (Err NotItem) n e h = omega arith
+three_range (Err NotCommand) n e h = omega arith
+three_range (Err DoubleKey) n e h = omega arith
 
 pub check_range : (bytes : List ℕ) (n : ℕ) → check_of bytes ≡ n → (n ≡ 0 → ⊥) → (24 ≤ n) × (n ≤ 26)
 unfolding check_of

@@ -15,9 +15,11 @@ use Rattle.frame.specs.Frame.{Frame, header_for, frame_bytes}
 use Rattle.frame.proofs.FrameBack.{frame-length}
 use Rattle.buffer.specs.Bytes.{write}
 use Rattle.buffer.proofs.WriteLaws.{write-twice, length-write}
-use Rattle.sender.specs.declared.Wishes.{Wishes}
+use Rattle.sender.specs.declared.frames.Kind.{Kind}
+use Rattle.sender.specs.declared.frames.Kind.TheVariants.{Command, Data}
+use Rattle.sender.specs.declared.frames.Frames.{Frames}
 use Rattle.sender.specs.Frames.{frames, all_bytes, total}
-use Rattle.sender.specs.Steps.{frame_for}
+use Rattle.sender.specs.Steps.{frame_of, frame_for}
 
 header_then : (f : Frame) (out : List ℕ) (at : ℕ) → write (write out at (header_bytes (header_for f))) (at + 8) f.payload ≡ write out at (frame_bytes f)
 unfolding frame_bytes header_bytes
@@ -107,21 +109,21 @@ module _ (make : Bool → Bool → List ℕ → Frame) (size : ℕ) where
       ended = g.goes ∙ rw (frames-last first left (drop p bytes) h)
 
 -- each frame carries the payload that it is made of
-pub carries : (how : Wishes) (of-data with-data first last : Bool) (payload : List ℕ) → (frame_for how of-data with-data first last payload).payload ≡ payload
-carries how true with-data first last payload = refl
-carries how false with-data first last payload = refl
+pub carries : (r : Frames) (first last : Bool) (payload : List ℕ) → (frame_for r first last payload).payload ≡ payload
+carries r first last payload = by r.kind
+  where
+    by : (k : Kind) → (frame_of k r.how first last payload).payload ≡ payload
+    by (Command with-data) = refl
+    by Data = refl
 
-pub made_long : (how : Wishes) (of-data with-data first last : Bool) (payload : List ℕ)
-    → length payload + 8 ≡ length (frame_bytes (frame_for how of-data with-data first last payload))
-made_long how of-data with-data first last payload =
-    omega (arith, frame-length (frame_for how of-data with-data first last payload), ap length (carries how of-data with-data first last payload))
+pub made_long : (r : Frames) (first last : Bool) (payload : List ℕ) → length payload + 8 ≡ length (frame_bytes (frame_for r first last payload))
+made_long r first last payload = omega (arith, frame-length (frame_for r first last payload), ap length (carries r first last payload))
 
 -- a frame that is put in two parts, its header and its payload
-pub in_two : (how : Wishes) (of-data with-data first last : Bool) (payload : List ℕ) (h : Header) (out : List ℕ) (at : ℕ)
-    → h ≡ header_for (frame_for how of-data with-data first last payload)
-    → write (write out at (header_bytes h)) (at + 8) payload ≡ write out at (frame_bytes (frame_for how of-data with-data first last payload))
-in_two how of-data with-data first last payload h out at e =
-    let f : Frame = frame_for how of-data with-data first last payload in
+pub in_two : (r : Frames) (first last : Bool) (payload : List ℕ) (h : Header) (out : List ℕ) (at : ℕ) → h ≡ header_for (frame_for r first last payload)
+    → write (write out at (header_bytes h)) (at + 8) payload ≡ write out at (frame_bytes (frame_for r first last payload))
+in_two r first last payload h out at e =
+    let f : Frame = frame_for r first last payload in
     ap (λ (x : Header). write (write out at (header_bytes x)) (at + 8) payload) e
-    ∙ ap (write (write out at (header_bytes (header_for f))) (at + 8)) (sym (carries how of-data with-data first last payload))
+    ∙ ap (write (write out at (header_bytes (header_for f))) (at + 8)) (sym (carries r first last payload))
     ∙ header_then f out at

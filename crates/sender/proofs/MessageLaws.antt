@@ -2,6 +2,8 @@
 -- Assumes nothing.
 use mathlib.Core.Path.{◌≡◌, refl, sym, ap, ◌∙◌}
 use mathlib.Core.Bool.{Bool, true, false, cond}
+use Rattle.std.specs.Prelude.{Option, Some, None, Err}
+use Rattle.std.specs.Option.{ok_or}
 use mathlib.Core.List.{List, [], ◌++◌, append-nil}
 use Prim.Native.Nat.{ℕ, ◌+◌, ◌-◌, ◌*◌, ◌≤◌, ◌<◌}
 use native.Mathlib.Nat.{div-mul-le_self}
@@ -13,10 +15,12 @@ use Rattle.frame.specs.Frame.{Frame}
 use Rattle.buffer.specs.Bytes.{write}
 use Rattle.buffer.proofs.WriteLaws.{write_also}
 use Rattle.sender.specs.declared.Wishes.{Wishes}
+use Rattle.sender.specs.declared.frames.Kind.TheVariants.{Command, Data}
+use Rattle.sender.specs.declared.frames.Frames.{Frames}
 use Rattle.sender.specs.Frames.{command_frame, data_frame, frames, full_frames, command_frames, data_frames, message_frames, all_bytes, total}
 use Rattle.buffer.specs.Answers.{answer, refused}
 use Rattle.sender.specs.Send.{frames_into}
-use Rattle.sender.specs.Steps.{frame_for, type_bytes}
+use Rattle.sender.specs.Steps.{type_bytes, frame_for, room_left}
 use Rattle.sender.proofs.FrameLaws.{all-long, all_append, frames-total, carries}
 
 -- ---- full frames
@@ -25,8 +29,8 @@ pub full-fits : (size n : ℕ) → full_frames size n * size ≤ n
 unfolding full_frames
 full-fits size n = omega (arith, div-mul-le_self (n - 1) size)
 
-pub type-long : (how : Wishes) (of-data d : Bool) (n : ℕ) (bytes : List ℕ) → length (type_bytes how of-data d n bytes) ≡ 8 * (n + 1) + length bytes
-type-long how of-data d n bytes = all-long (frames (frame_for how of-data d) how.size true n bytes) ∙ frames-total (frame_for how of-data d) how.size (carries how of-data d) true n bytes
+pub type-long : (r : Frames) (n : ℕ) (bytes : List ℕ) → length (type_bytes r n bytes) ≡ 8 * (n + 1) + length bytes
+type-long r n bytes = all-long (frames (frame_for r) r.how.size true n bytes) ∙ frames-total (frame_for r) r.how.size (carries r) true n bytes
 
 -- ---- the frames of each type, and of both
 
@@ -35,11 +39,11 @@ total_append fs gs = omega (arith, all-long (fs ++ gs), ap length (all_append fs
 
 module _ (how : Wishes) (command : List ℕ) (d : Bool) (bytes : List ℕ) where
   -- as the code has them
-  pub as_command : (full : ℕ) → full ≡ full_frames how.size (length command) → type_bytes how false d full command ≡ all_bytes (command_frames how d command)
+  pub as_command : (full : ℕ) → full ≡ full_frames how.size (length command) → type_bytes (record { how = how; kind = Command d }) full command ≡ all_bytes (command_frames how d command)
   unfolding command_frames
   as_command full e = rw e
 
-  pub as_data : (full : ℕ) → full ≡ full_frames how.size (length bytes) → type_bytes how true d full bytes ≡ all_bytes (data_frames how bytes)
+  pub as_data : (full : ℕ) → full ≡ full_frames how.size (length bytes) → type_bytes (record { how = how; kind = Data }) full bytes ≡ all_bytes (data_frames how bytes)
   unfolding data_frames
   as_data full e = rw e
 
@@ -69,13 +73,29 @@ module _ (how : Wishes) (command : List ℕ) (d : Bool) (bytes : List ℕ) where
 
 -- ---- 54, or all is put
 
--- what the test of the room says
-module _ (full n room : ℕ) (r : Bool) (e : r ≡ leb (8 * (full + 1) + n) room) where
-  pub no_room : r ≡ false → room < 8 * (full + 1) + n
-  no_room h = leb-false (8 * (full + 1) + n) room (sym e ∙ h)
+-- what the room says
+module _ (room full n : ℕ) (o : Option ℕ) (e : o ≡ room_left room full n) where
+  abbrev pub needed : ℕ
+  needed = 8 * (full + 1) + n
 
-  pub some-room : r ≡ true → 8 * (full + 1) + n ≤ room
-  some-room h = leb-true (8 * (full + 1) + n) room (sym e ∙ h)
+  pub no_room : o ≡ None → room < needed
+  no_room h = by (leb needed room) refl (sym e ∙ h)
+    where
+      by : (t : Bool) → leb needed room ≡ t → cond t (Some (room - needed)) None ≡ None → room < needed
+      by true f g = absurd (cc)
+      by false f g = leb-false needed room f
+
+  pub some-room : (left : ℕ) → o ≡ Some left → (needed ≤ room) × (left ≡ room - needed)
+  some-room left h = by (leb needed room) refl (sym e ∙ h)
+    where
+      by : (t : Bool) → leb needed room ≡ t → cond t (Some (room - needed)) None ≡ Some left → (needed ≤ room) × (left ≡ room - needed)
+      by true f g = (leb-true needed room f, cc)
+      by false f g = absurd (cc)
+
+-- the refusal that `ok_or` was given
+pub given_refusal : {A E : Type 0} (o : Option A) (x r : E) → Err x ≡ ok_or o r → x ≡ r
+given_refusal None x r e = cc
+given_refusal (Some n) x r e = absurd (cc)
 
 pub too_short : (fs : List Frame) (out : List ℕ) → length out < total fs → refused 54 out ≡ frames_into fs out
 unfolding frames_into

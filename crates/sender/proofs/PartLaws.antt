@@ -1,6 +1,7 @@
 -- The check of a command's bytes is the judgement of its parts: `laid` says what is read at each place of the bytes, the pairs read behind
 -- what stands before them as they read alone, and the check follows from that.
 -- Assumes nothing.
+use Rattle.std.specs.Prelude.{Option, None, Some, Ok, Err}
 use mathlib.Core.Path.{◌≡◌, refl, sym, ap, ◌∙◌}
 use mathlib.Core.Bool.{Bool, true, false, cond, ◌&&◌, ◌||◌}
 use mathlib.Core.List.{List, [], ◌∷◌, ◌++◌, append_assoc}
@@ -9,8 +10,6 @@ use native.Mathlib.Omega.{arith}
 use lib.ListN.{length, length-append}
 use lib.Seq.{take_at, drop_at}
 use Rattle.cbor.specs.declared.Item.TheVariants.{Bytes, Map}
-use Rattle.cbor.specs.declared.Next.{Next}
-use Rattle.cbor.specs.declared.Next.TheVariants.{At, Bad}
 use Rattle.cbor.specs.Cbor.{width, shortest, and_then, item_at, key, pair, repeat, value, whole, is_item}
 use Rattle.cbor.specs.Heads.{big_bytes, head_bytes, string_bytes}
 use Rattle.cbor.proofs.Shift.{shifted, repeat_shifts, pair_shifts, value_shifts, whole_shift}
@@ -22,16 +21,15 @@ use Rattle.double_keys.specs.declared.Keys.TheVariants.{Single, Double, Others}
 use Rattle.entries.specs.Entries.{all, any, is_keyed, entry_at, entries, contents, find}
 use Rattle.double_keys.specs.DoubleKeys.{keys_of}
 use Rattle.entries.proofs.Shift.{entries_shift, part_shift, all-keyed_shift, twice_shift}
-use Rattle.command_map.specs.declared.Checked.{Checked}
-use Rattle.command_map.specs.declared.Checked.TheVariants.{Command, NotItem, NotCommand, DoubleKey}
-use Rattle.command_map.specs.CommandMap.{name-key, args_key, allowed, value_under, args_double, double, map_of}
+use Rattle.command_map.specs.declared.Refusal.TheVariants.{NotItem, NotCommand, DoubleKey}
+use Rattle.command_map.specs.CommandMap.{Checked, name-key, args_key, allowed, value_under, args_double, double, map_of}
 use Rattle.command.specs.Command.{checked}
 use Rattle.sender.specs.Parts.{command_bytes, name_start, name_stop, first_pair, pairs_end, name_fits, by_keys, parts_checked, CheckedByParts}
 
 -- What stands behind the first f bytes of s: the pairs, read there as they read alone.
 record Behind (s pairs : List ℕ) (count f : ℕ) : Type 0 where
   ends : repeat count (pair s (value s 6)) f ≡ shifted f (pairs_end pairs count)
-  end : (x : Next) → whole s (shifted f x) ≡ whole pairs x
+  end : (x : Option ℕ) → whole s (shifted f x) ≡ whole pairs x
   strings : all is_keyed (entries s 6 count f) ≡ all is_keyed (entries pairs 6 count 0)
   doubles : twice (contents s (entries s 6 count f)) ≡ twice (contents pairs (entries pairs 6 count 0))
 
@@ -56,7 +54,7 @@ alone k rest =
 
 -- A byte string written behind p is read at the position q, and its content is found again.
 module _ (s p k rest : List ℕ) (q : ℕ) (e : s ≡ p ++ (string_bytes k ++ rest)) (h : q ≡ length p) where
-  string-read : length k < 2 ^ 64 → item_at s q ≡ Bytes (q + length (head_bytes 2 (length k))) (q + length (string_bytes k))
+  string-read : length k < 2 ^ 64 → item_at s q ≡ Some (Bytes (q + length (head_bytes 2 (length k))) (q + length (string_bytes k)))
   string-read l = rw (e, h) (string-at p k rest l)
 
   string-part : part s (q + length (head_bytes 2 (length k))) (q + length (string_bytes k)) ≡ k
@@ -64,11 +62,11 @@ module _ (s p k rest : List ℕ) (q : ℕ) (e : s ≡ p ++ (string_bytes k ++ re
 
 -- How a command lies in its bytes s: the outer map of two, its keys and values, and the pairs from f on.
 record Laid (s name pairs : List ℕ) (count a b f : ℕ) : Type 0 where
-  outer : item_at s 0 ≡ Map 2 1
-  name-key-at : item_at s 1 ≡ Bytes 2 6
-  name-at : item_at s 6 ≡ Bytes a b
-  args_key-at : item_at s b ≡ Bytes (b + 1) (b + 5)
-  args_at : item_at s (b + 5) ≡ Map count f
+  outer : item_at s 0 ≡ Some (Map 2 1)
+  name-key-at : item_at s 1 ≡ Some (Bytes 2 6)
+  name-at : item_at s 6 ≡ Some (Bytes a b)
+  args_key-at : item_at s b ≡ Some (Bytes (b + 1) (b + 5))
+  args_at : item_at s (b + 5) ≡ Some (Map count f)
   name-part : part s 2 6 ≡ name-key
   args_part : part s (b + 1) (b + 5) ≡ args_key
   size : b - a ≡ length name
@@ -171,18 +169,21 @@ module _ (name pairs : List ℕ) (count : ℕ) where
       }
 
 -- what the tests of the entries and the keys come to
-tests : (n k t : Bool) (c : Checked) → cond (n && (k && true)) (cond (t || false) DoubleKey c) NotCommand ≡ cond n (by_keys (cond k (cond t Double Single) Others) c) NotCommand
+tests : (n k t : Bool) (c : Checked) → cond (n && (k && true)) (cond (t || false) (Err DoubleKey) c) (Err NotCommand) ≡ cond n (by_keys (cond k (cond t Double Single) Others) c) (Err NotCommand)
 tests true true true c = refl
 tests true true false c = refl
 tests true false t c = refl
 tests false k t c = refl
 
-then_at : (x : Next) → and_then x At ≡ x
-then_at (At q) = refl
-then_at Bad = refl
+then_at : (x : Option ℕ) → and_then x Some ≡ x
+then_at (Some q) = refl
+then_at None = refl
 
 module _ (s name pairs : List ℕ) (count a b f : ℕ) (l : Laid s name pairs count a b f) where
-  name-value : value s 7 6 ≡ At b
+  abbrev found : Checked
+  found = Ok (record { start = a; stop = b; count = count; first = f })
+
+  name-value : value s 7 6 ≡ Some b
   unfolding value
   name-value = rw l.name-at
 
@@ -194,7 +195,7 @@ module _ (s name pairs : List ℕ) (count a b f : ℕ) (l : Laid s name pairs co
   unfolding pair key
   second = rw l.args_key-at args_value
 
-  first : pair s (value s 7) 1 ≡ At b
+  first : pair s (value s 7) 1 ≡ Some b
   unfolding pair key
   first = rw l.name-key-at name-value
 
@@ -207,15 +208,15 @@ module _ (s name pairs : List ℕ) (count a b f : ℕ) (l : Laid s name pairs co
   item = rw (l.outer, both) (l.pairs_at.end (pairs_end pairs count))
 
   -- the two entries, where the pairs are read to an end
-  module _ (q : ℕ) (e : pairs_end pairs count ≡ At q) where
+  module _ (q : ℕ) (e : pairs_end pairs count ≡ Some q) where
     abbrev two : List Entry
     two = Keyed 2 6 b ∷ Keyed (b + 1) (b + 5) (f + q) ∷ []
 
-    the_first : entry_at s 7 1 ≡ Keyed 2 6 b
+    the_first : entry_at s 7 1 ≡ Some (Keyed 2 6 b)
     unfolding entry_at
     the_first = rw (l.name-key-at, name-value)
 
-    the_second : entry_at s 7 b ≡ Keyed (b + 1) (b + 5) (f + q)
+    the_second : entry_at s 7 b ≡ Some (Keyed (b + 1) (b + 5) (f + q))
     unfolding entry_at
     the_second = rw (l.args_key-at, args_value, e)
 
@@ -223,14 +224,14 @@ module _ (s name pairs : List ℕ) (count a b f : ℕ) (l : Laid s name pairs co
     unfolding entries
     the_two = rw (the_first, the_second)
 
-    map_of_lem : map_of s two ≡ cond (name_fits name) (by_keys (keys_of pairs (entries pairs 6 count 0)) (Command a b count f)) NotCommand
+    map_of_lem : map_of s two ≡ cond (name_fits name) (by_keys (keys_of pairs (entries pairs 6 count 0)) found) (Err NotCommand)
     unfolding map_of all any allowed value_under find double args_double contents twice among equal keys_of name_fits
-    map_of_lem = rw (l.name-part, l.args_part, l.name-at, l.args_at, l.size, l.pairs_at.strings, l.pairs_at.doubles) (tests (name_fits name) (all is_keyed (entries pairs 6 count 0)) (twice (contents pairs (entries pairs 6 count 0))) (Command a b count f))
+    map_of_lem = rw (l.name-part, l.args_part, l.name-at, l.args_at, l.size, l.pairs_at.strings, l.pairs_at.doubles) (tests (name_fits name) (all is_keyed (entries pairs 6 count 0)) (twice (contents pairs (entries pairs 6 count 0))) found)
 
-  by_end : (x : Next) → pairs_end pairs count ≡ x → checked s ≡ cond (whole pairs x) (cond (name_fits name) (by_keys (keys_of pairs (entries pairs 6 count 0)) (Command a b count f)) NotCommand) NotItem
+  by_end : (x : Option ℕ) → pairs_end pairs count ≡ x → checked s ≡ cond (whole pairs x) (cond (name_fits name) (by_keys (keys_of pairs (entries pairs 6 count 0)) found) (Err NotCommand)) (Err NotItem)
   unfolding checked
-  by_end Bad e = rw (item, e)
-  by_end (At q) e = rw (item, e, l.outer, the_two q e, map_of_lem q e)
+  by_end None e = rw (item, e)
+  by_end (Some q) e = rw (item, e, l.outer, the_two q e, map_of_lem q e)
 
 pub checked-by_parts : CheckedByParts
 unfolding parts_checked

@@ -4,11 +4,11 @@
 mod frames;
 mod parts;
 
-ghost use Rattle.std.specs.Prelude.{◌≡◌};
+ghost use Rattle.std.specs.Prelude.{◌≡◌, is_some};
 ghost use Rattle.sender.specs.Parts.{command_bytes};
-ghost use Rattle.buffer.specs.Answers.{answer};
-ghost use Rattle.sender.specs.Send.{send_of};
+ghost use Rattle.sender.specs.Send.{refusal_number, refused_by, answered, data_bytes, send_of};
 ghost use Rattle.sender.specs.Steps.{wish_number};
+ghost use Rattle.sender.specs.declared.Refusal.TheVariants.{BadCommand};
 
 // The largest payload size that may be wished.
 pub const MAX_SIZE: usize = 4096;
@@ -24,62 +24,74 @@ pub struct Wishes {
     pub size: usize,
 }
 
-// The sending call's answer: 0 or the refusal, and the bytes written.
-#[derive(Clone, Copy)]
-pub struct Sent {
-    pub number: u32,
-    pub written: usize,
+// Why the sending call refuses: an even request or stream id, a size outside 1 to 4,096, a command the check would refuse, a command over
+// 2,048 bytes, output too short for the exact total.
+#[derive(Clone, Copy, Debug, PartialEq, Eq)]
+pub enum Refusal {
+    EvenId,
+    Size,
+    BadCommand,
+    LongCommand,
+    ShortOutput,
 }
 
-// A refusal: nothing is written.
-fn refused(number: u32) -> Sent
-    ensures { result ≡ record { number = number; written = 0 } }
-{
-    Sent { number, written: 0 }
-}
+impl From<command_map::Refusal> for Refusal {
+    ghost from_gives = { λ _ r. r ≡ BadCommand };
 
-// The refusal of an even id or of a size outside the range: 50 or 51, else 0.
-#[tactic(auto, unfolding(crate::specs::Steps::wish_number, frame::specs::Frame::is_even))]
-fn wish_number(how: Wishes) -> u32
-    ensures { result ≡ wish_number how }
-{
-    if (how.request % 2 == 0) | (how.stream % 2 == 0) {
-        return 50;
+    fn from(_: command_map::Refusal) -> Refusal {
+        Self::BadCommand
     }
-    if (how.size == 0) | (MAX_SIZE < how.size) {
-        return 51;
-    }
-    0
 }
 
-// Writes the frames that carry a command and, where it has some, its data. It refuses, in this order and with the output unchanged: 50 an
-// even request or stream id, 51 a size outside 1 to 4,096, 52 a command the check would refuse, 53 a command over 2,048 bytes, 54 output too
-// short for the exact total.
+impl From<Refusal> for u32 {
+    ghost from_gives = { λ r n. n ≡ refusal_number r };
+
+    fn from(r: Refusal) -> u32 {
+        match r {
+            Refusal::EvenId => 50,
+            Refusal::Size => 51,
+            Refusal::BadCommand => 52,
+            Refusal::LongCommand => 53,
+            Refusal::ShortOutput => 54,
+        }
+    }
+}
+
+impl Wishes {
+    // Refuses an even id and a size outside the range.
+    #[tactic(auto, unfolding(crate::specs::Steps::wish_number, frame::specs::Frame::is_even))]
+    fn check(self) -> Result<(), Refusal>
+        ensures { refused_by result ≡ wish_number self }
+    {
+        if (self.request % 2 == 0) | (self.stream % 2 == 0) {
+            return Err(Refusal::EvenId);
+        }
+        if (self.size == 0) | (MAX_SIZE < self.size) {
+            return Err(Refusal::Size);
+        }
+        Ok(())
+    }
+}
+
+// Writes the frames that carry a command and, where it has some, its data, and answers how many bytes they are. It refuses in the order of
+// `Refusal`, with the output unchanged.
 pub fn send(
     out: &mut [u8],
     how: Wishes,
     name: &[u8],
     pairs: &[u8],
     count: u64,
-    with_data: bool,
-    data: &[u8],
-) -> Sent
-    ensures { answer result.number result.written out.new ≡ send_of how (command_bytes name.now pairs.now count) with_data «data».now out.old }
+    data: Option<&[u8]>,
+) -> Result<usize, Refusal>
+    ensures { answered result out.new ≡ send_of how (command_bytes name.now pairs.now count) (is_some «data».entry) (data_bytes «data».entry) out.old }
 {
-    let number = wish_number(how);
-    if number != 0 {
-        return refused(number);
-    }
-    if parts::parts_number(name, pairs, count) != 0 {
-        return refused(52);
-    }
+    how.check()?;
+    parts::check(name, pairs, count)?;
     if frame::MAX_COMMAND < pairs.len() {
-        return refused(53);
+        return Err(Refusal::LongCommand);
     }
-    let mut command = [0u8; frame::MAX_COMMAND];
-    let n = parts::put_command(&mut command, name, pairs, count);
-    if frame::MAX_COMMAND < n {
-        return refused(53);
-    }
-    frames::put_message(out, how, &command[..n], with_data, data)
+    let mut row = [0u8; frame::MAX_COMMAND];
+    let n = parts::put_command(&mut row, name, pairs, count);
+    let command = row.get(..n).ok_or(Refusal::LongCommand)?;
+    frames::put_message(out, how, command, data)
 }

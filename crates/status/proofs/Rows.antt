@@ -12,7 +12,10 @@ use borrow.Author.Tests.{ltb-false, ne_eqb}
 use Rattle.frame.specs.Limits.{slot_count}
 use Rattle.channel.specs.declared.Channel.{Channel}
 use Rattle.channel.specs.Channel.{plain_shape}
-use Rattle.status.specs.Row.{shown, row_number, filled_if}
+use Rattle.std.specs.Prelude.{Result, Ok, Err}
+use Rattle.status.specs.declared.Refusal.{Refusal}
+use Rattle.status.specs.declared.Refusal.TheVariants.{NotInShape, ShortRow}
+use Rattle.status.specs.Row.{refusal_of, refused_by, shown, row_number, filled_if}
 
 module _ {A : Type 0} where
   abbrev pub up_to : List A → List A → ℕ → List A
@@ -58,3 +61,12 @@ has_eight c n e = go (plain_shape c) (ltb n slot_count) refl e
     go false short h e = absurd (omega (arith, e))
     go true true h e = absurd (omega (arith, e))
     go true false h e = ltb-false n slot_count h
+
+-- an answer and its number
+pub refusal-some : (r : Refusal) → refusal_of r ≡ 0 → ⊥
+refusal-some NotInShape e = cc
+refusal-some ShortRow e = cc
+
+pub ok-zero : (r : Result Unit Refusal) → ((e : Refusal) → r ≡ Err e → ⊥) → refused_by r ≡ 0
+ok-zero (Ok u) h = refl
+ok-zero (Err e) h = absurd (h e refl)

@@ -1,6 +1,6 @@
 -- E6: the count of active requests, and the row for a screen: what a call answers, and what a lent row holds after it.
 -- These are definitions: they assume nothing.
-use Rattle.std.specs.Prelude.{ℕ, ◌/◌, cond, List, ◌++◌, map, length, drop, ltb, eqb}
+use Rattle.std.specs.Prelude.{ℕ, ◌/◌, cond, List, ◌++◌, map, length, drop, ltb, eqb, Result, Ok, Err}
 use Rattle.buffer.specs.Bytes.{write}
 use Rattle.fields.specs.Fields.{Field, number, both, standing, put_all}
 use Rattle.frame.specs.Limits.{slot_count}
@@ -8,14 +8,32 @@ use Rattle.requests.specs.declared.Slot.{Slot}
 use Rattle.channel.specs.declared.Channel.{Channel}
 use Rattle.channel.specs.Channel.{plain_shape}
 use Rattle.layout.specs.State.{phase}
-use Rattle.status.specs.declared.ActiveCount.{ActiveCount}
+use Rattle.status.specs.declared.Refusal.{Refusal}
+use Rattle.status.specs.declared.Refusal.TheVariants.{NotInShape, ShortRow}
 use Rattle.status.specs.declared.Entry.{Entry}
+
+-- the number of a refusal
+abbrev pub refusal_of : Refusal → ℕ
+refusal_of NotInShape = 3
+refusal_of ShortRow = 9
 
 -- ---- the count
 
+-- a number, and how many requests are active: 0 if refused
+pub record ActiveCount : Type 0 where
+  pub number : ℕ
+  pub count : ℕ
+
+abbrev pub active_count : ℕ → ℕ → ActiveCount
+active_count n count = record { number = n; count = count }
+
+abbrev pub counted : Result ℕ Refusal → ActiveCount
+counted (Ok n) = active_count 0 n
+counted (Err r) = active_count (refusal_of r) 0
+
 -- 3 for a state that fails finish's shape check
 unfoldable pub active_of : Channel → ActiveCount
-active_of c = cond (plain_shape c) (record { number = 0; count = c.active }) (record { number = 3; count = 0 })
+active_of c = cond (plain_shape c) (active_count 0 c.active) (active_count 3 0)
 
 -- ---- the row
 
@@ -33,6 +51,11 @@ pub record Shown (A : Type 0) : Type 0 where
 
 abbrev pub shown : {A : Type 0} → ℕ → List A → Shown A
 shown n row = record { number = n; row = row }
+
+-- the number of an answer, 0 where the row is filled
+abbrev pub refused_by : Result Unit Refusal → ℕ
+refused_by (Ok u) = 0
+refused_by (Err r) = refusal_of r
 
 -- 3 for a state that fails finish's shape check, then 9 for a row of less than eight places
 unfoldable pub row_number : Channel → ℕ → ℕ

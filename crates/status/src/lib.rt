@@ -6,10 +6,10 @@ pub mod in_bytes;
 
 ghost use Rattle.std.specs.Prelude.{◌≡◌, get_or};
 ghost use Rattle.requests.specs.Phases.{code, free_slot};
-ghost use Rattle.status.specs.Row.{active_of, entry_of, row_number, shown, shown_in};
+ghost use Rattle.status.specs.Row.{active_of, entry_of, entries, refusal_of, counted, refused_by, row_number, shown, shown_in};
 
 use channel::Channel;
-use requests::Phase;
+use requests::{Phase, Slot};
 
 // What the screen shows of a slot: the request's id and its phase.
 #[derive(Clone, Copy)]
@@ -18,84 +18,90 @@ pub struct Entry {
     pub phase: Phase,
 }
 
-// What active answers: its number, and how many requests are active.
-#[derive(Clone, Copy)]
-pub struct ActiveCount {
-    pub number: u8,
-    pub count: u8,
+// Why a call is refused: the state fails finish's shape check, or the row is shorter than eight entries.
+#[derive(Clone, Copy, PartialEq, Eq)]
+pub enum Refusal {
+    NotInShape,
+    ShortRow,
 }
 
-// How many requests are active, of a dead channel too: 0; or 3 for a state that fails finish's shape check, and none.
-pub fn active(c: Channel) -> ActiveCount
-    ensures { result ≡ active_of c }
+// The number of a refusal.
+impl From<Refusal> for u8 {
+    ghost from_gives = { λ r n. n ≡ refusal_of r };
+
+    fn from(refusal: Refusal) -> u8 {
+        match refusal {
+            Refusal::NotInShape => 3,
+            Refusal::ShortRow => 9,
+        }
+    }
+}
+
+// How many requests are active, of a dead channel too; or 3 for a state that fails finish's shape check.
+#[tactic(auto, unfolding(crate::specs::Row::active_of))]
+pub fn active(c: Channel) -> Result<u8, Refusal>
+    ensures { counted result ≡ active_of c }
 {
     if !c.is_plain() {
-        return ActiveCount {
-            number: 3,
-            count: 0,
-        };
+        return Err(Refusal::NotInShape);
     }
-    ActiveCount {
-        number: 0,
-        count: c.active,
-    }
+    Ok(c.active)
 }
 
 // The id of the slot at an index, 0 where the slot is free or there is none.
+// Stays 0 where there is none, as `phase_at` does: it could not fail.
 pub fn id_at(c: Channel, i: usize) -> u16
     ensures { result ≡ (get_or c.slots i free_slot).id }
 {
-    let slots = c.slots;
-    let x = requests::slot_at(slots, i);
-    x.id
+    requests::slot_at(&c.slots, i).id
 }
 
 // The number of the phase of the slot at an index, that of a free one where there is none.
 pub fn phase_at(c: Channel, i: usize) -> u8
     ensures { result ≡ code (get_or c.slots i free_slot).phase }
 {
-    let slots = c.slots;
-    let x = requests::slot_at(slots, i);
-    let phase = x.phase;
-    requests::phase_code(phase)
+    u8::from(requests::slot_at(&c.slots, i).phase)
 }
 
-// The number that a call for a row of so many places answers.
-fn row_number(c: Channel, places: usize) -> u8
-    ensures { result ≡ row_number c places }
+// Whether a call for a row of so many places is refused.
+#[tactic(auto, unfolding(crate::specs::Row::row_number))]
+fn check(c: Channel, places: usize) -> Result<(), Refusal>
+    ensures { refused_by result ≡ row_number c places }
 {
     if !c.is_plain() {
-        return 3;
+        return Err(Refusal::NotInShape);
     }
     if places < 8 {
-        return 9;
+        return Err(Refusal::ShortRow);
     }
-    0
+    Ok(())
 }
 
-// The entry of the slot at an index.
-fn entry_of(c: Channel, i: usize) -> Entry
-    ensures { result ≡ entry_of (get_or c.slots i free_slot) }
+// The entry of a slot.
+fn entry_of(x: Slot) -> Entry
+    ensures { result ≡ entry_of x }
 {
-    let slots = c.slots;
-    let x = requests::slot_at(slots, i);
-    let phase = x.phase;
-    Entry { id: x.id, phase }
+    Entry {
+        id: x.id,
+        phase: x.phase,
+    }
+}
+
+// The entries of the slots.
+fn entries(c: Channel) -> [Entry; 8]
+    ensures { result ≡ entries c }
+{
+    c.slots.map(|x| entry_of(x))
 }
 
 // Fills a lent row, of a dead channel too: 3 for a state that fails finish's shape check, then 9 for a row shorter than eight, both with no
-// change; else 0, and entries past the eighth stay.
-pub fn show(c: Channel, row: &mut [Entry]) -> u8
-    ensures { shown result row.new ≡ shown_in c row.old }
+// change; else the first eight entries are the slots', and those past the eighth stay.
+pub fn show(c: Channel, row: &mut [Entry]) -> Result<(), Refusal>
+    ensures { shown (refused_by result) row.new ≡ shown_in c row.old }
 {
-    let n = row_number(c, row.len());
-    if n != 0 {
-        return n;
+    if let Err(refusal) = check(c, row.len()) {
+        return Err(refusal);
     }
-    let mut i = 0;
-    while i < 8 {
-        row[i] = entry_of(c, i);
-        i += 1;
-    }
-    0
+    row[..8].copy_from_slice(&entries(c));
+    Ok(())
 }

@@ -1,2 +1,3 @@
 -- What the proofs of several functions, and of the programs that put text, use.
 pub mod Texts
+pub mod Digits

@@ -1,4 +1,4 @@
--- Texts put one after another into a buffer, and the lengths of texts.
+-- Texts put one after another into a buffer or into a line, and the lengths of texts.
 -- Assumes nothing.
 use mathlib.Core.Path.{◌≡◌, refl, sym, ap, ◌∙◌}
 use mathlib.Core.Bool.{Bool, true, false, cond}
@@ -7,8 +7,13 @@ use Prim.Native.Nat.{ℕ, zero, suc, ◌+◌, ◌-◌, ◌*◌, ◌/◌, ◌%◌
 use native.Mathlib.Omega.{arith}
 use lib.Dec.{ltb}
 use lib.ListN.{length, take, length-append}
-use Rattle.buffer.proofs.WriteLaws.{length-write, write-none, write-twice, write-behind, take-front}
-use Rattle.text.specs.Text.{Added, hex_of, decimal_before, decimal_of}
+use lib.Seq.{paste, take_all}
+use Rattle.std.proofs.Common.{append_assoc}
+use Rattle.std.proofs.Math.Seq.{take-append-add}
+use Rattle.std.proofs.lemmas.List.{take_min, length-take-le}
+use Rattle.std.proofs.lemmas.List.Edits.{take-paste}
+use Rattle.buffer.proofs.WriteLaws.{length-write, write-none, write-cut, write-twice, write-behind, take-front}
+use Rattle.text.specs.Text.{Added, appended, hex_of, decimal_before, decimal_of}
 
 -- no text is put
 pub nothing : (out : List ℕ) (at : ℕ) → Added out at [] out at
@@ -36,6 +41,33 @@ pub whole : {old new t : List ℕ} {r : ℕ} → Added old 0 t new r → length 
 whole {old} {new} {t} {r} a h =
     let e : r ≡ length t = omega (arith, a.next) in
     rw (e, a.buffer) (take-front old t h)
+
+-- a text put behind the first bytes of a buffer is put behind the line that they are
+pub kept : {old new t : List ℕ} {at n r : ℕ} → Added old at t new r → length old ≡ n → at ≤ n → take r new ≡ appended n (take at old) t
+kept {old} {new} {t} {at} {n} {r} a e h =
+    let k : ℕ = min (n - at) (length t) in
+    let end : r ≡ at + k = omega (arith, a.next) in
+    let pasted : new ≡ paste old at t k = a.buffer ∙ write-cut old at t k (omega arith) (omega arith) (λ q. omega arith) in
+    let size : length (take at old) + (n - at) ≡ n = omega (arith, length-take-le at old (omega arith)) in
+    let put : take (at + k) (paste old at t k) ≡ take at old ++ take k t = take-paste old at t k (omega arith) (omega arith) in
+    let cut : take (length (take at old) + (n - at)) (take at old ++ t) ≡ take at old ++ take (n - at) t = take-append-add (take at old) t (n - at) in
+    rw (end, pasted, put, take_min (n - at) t) (sym (rw size at cut))
+
+cut-first : (n : ℕ) (s t : List ℕ) → take n (take n s ++ t) ≡ take n (s ++ t)
+cut-first zero s t = refl
+cut-first (suc n) [] t = refl
+cut-first (suc n) (x ∷ s) t = ap (λ (l : List ℕ). x ∷ l) (cut-first n s t)
+
+joined : (n : ℕ) (line t u : List ℕ) → appended n (appended n line t) u ≡ appended n line (t ++ u)
+joined n line t u = cut-first n (line ++ t) u ∙ ap (take n) (append_assoc line t u)
+
+-- a text, and after it another: true also where the room cuts them
+pub behind : (n : ℕ) (line t u : List ℕ) {mid r : List ℕ} → mid ≡ appended n line t → r ≡ appended n mid u → r ≡ appended n line (t ++ u)
+behind n line t u a b = b ∙ rw a (joined n line t u)
+
+-- a text that fits an empty line is the line
+pub fitting : (n : ℕ) (t : List ℕ) → length t ≤ n → appended n [] t ≡ t
+fitting n t h = take_all n t h
 
 -- two digits for each byte
 pub hex_length : (s : List ℕ) → length (hex_of s) ≡ 2 * length s

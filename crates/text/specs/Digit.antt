@@ -1,5 +1,5 @@
 -- What a byte means as a hex digit. These are definitions: they assume nothing.
-use Rattle.std.specs.Prelude.{ℕ, ◌-◌, Bool, cond, ◌&&◌, leb}
+use Rattle.std.specs.Prelude.{ℕ, ◌-◌, Bool, cond, ◌&&◌, leb, ltb, Option, Some, None}
 
 -- b lies from `low` to `high`
 unfoldable pub between : ℕ → ℕ → ℕ → Bool
@@ -12,3 +12,7 @@ digit_of b =
     (cond (between 65 70 b) (b - 55)
     (cond (between 97 102 b) (b - 87)
     16))
+
+-- the same as an answer: none where the byte is no digit
+abbrev pub as_digit : ℕ → Option ℕ
+as_digit b = cond (ltb (digit_of b) 16) (Some (digit_of b)) None

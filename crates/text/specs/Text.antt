@@ -1,5 +1,5 @@
 -- Text in a buffer: what putting it there makes of the buffer, and bytes and numbers as text. These are definitions: they assume nothing.
-use Rattle.std.specs.Prelude.{ℕ, zero, suc, ◌+◌, ◌-◌, ◌/◌, ◌%◌, min, ◌≡◌, cond, List, [], ◌∷◌, length, ltb}
+use Rattle.std.specs.Prelude.{ℕ, zero, suc, ◌+◌, ◌-◌, ◌/◌, ◌%◌, min, ◌≡◌, cond, List, [], ◌∷◌, ◌++◌, length, take, ltb}
 use Rattle.buffer.specs.Bytes.{write}
 
 -- the position after what fits of the text
@@ -10,6 +10,10 @@ end_of out at text = at + min (length text) (length out - at)
 pub record Added (old : List ℕ) (at : ℕ) (text new : List ℕ) (r : ℕ) : Type 0 where
   pub buffer : new ≡ write old at text
   pub next : r ≡ end_of old at text
+
+-- a text put behind what stands in a line of room for n bytes, as far as the room goes
+abbrev pub appended : ℕ → List ℕ → List ℕ → List ℕ
+appended n line text = take n (line ++ text)
 
 -- the ASCII code of a digit below 16: `0` to `9`, then `a` to `f`
 abbrev pub glyph_of : ℕ → ℕ

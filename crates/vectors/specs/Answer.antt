@@ -1,14 +1,9 @@
 -- The lines that the program writes, as lists of ASCII codes. These are definitions: they assume nothing.
-use Rattle.std.specs.Prelude.{ℕ, ◌-◌, ◌≤◌, ◌≡◌, cond, List, [], ◌∷◌, ◌++◌, length, take}
+use Rattle.std.specs.Prelude.{ℕ, ◌-◌, Option, None, Some, cond, List, [], ◌∷◌, ◌++◌}
 use Rattle.cbor.specs.declared.Item.{Item}
-use Rattle.cbor.specs.declared.Item.TheVariants.{Unsigned, Negative, Bytes, Simple, Array, Map, Set, Refused}
+use Rattle.cbor.specs.declared.Item.TheVariants.{Unsigned, Negative, Bytes, Simple, Array, Map, Set}
 use Rattle.cbor.specs.Cbor.{is_item, item_at}
 use Rattle.text.specs.Text.{hex_of, decimal_of, negative_of}
-
--- the first r bytes of a buffer are the line
-pub record Line (line buffer : List ℕ) (r : ℕ) : Type 0 where
-  pub room : r ≤ length buffer
-  pub first : take r buffer ≡ line
 
 -- `line `
 abbrev pub line_word : List ℕ
@@ -54,20 +49,24 @@ outside_word = 32 ∷ 111 ∷ 117 ∷ 116 ∷ 115 ∷ 105 ∷ 100 ∷ 101 ∷ []
 abbrev pub end_of-line : List ℕ
 end_of-line = 10 ∷ []
 
+-- the room of a line, which the longest fits
+abbrev pub room : ℕ
+room = 4160
+
 -- a line that cannot be read: its number, and what is wrong
 abbrev pub fault_of : ℕ → List ℕ → List ℕ
 fault_of number what = line_word ++ decimal_of number ++ colon ++ what ++ end_of-line
 
 -- an item's kind, with its value, its content's length or its count
-abbrev pub kind_of : Item → List ℕ
-kind_of (Unsigned n next) = unsigned_word ++ decimal_of n
-kind_of (Negative n next) = negative_word ++ negative_of n
-kind_of (Bytes start stop) = bytes_word ++ decimal_of (stop - start)
-kind_of (Simple next) = simple_word
-kind_of (Array n at) = array_word ++ decimal_of n
-kind_of (Map n at) = map_word ++ decimal_of n
-kind_of (Set n at) = set_word ++ decimal_of n
-kind_of Refused = outside_word
+abbrev pub kind_of : Option Item → List ℕ
+kind_of (Some (Unsigned n next)) = unsigned_word ++ decimal_of n
+kind_of (Some (Negative n next)) = negative_word ++ negative_of n
+kind_of (Some (Bytes start stop)) = bytes_word ++ decimal_of (stop - start)
+kind_of (Some (Simple next)) = simple_word
+kind_of (Some (Array n at)) = array_word ++ decimal_of n
+kind_of (Some (Map n at)) = map_word ++ decimal_of n
+kind_of (Some (Set n at)) = set_word ++ decimal_of n
+kind_of None = outside_word
 
 -- one item of the subset and its kind, or outside the subset
 abbrev pub judgement_of : List ℕ → List ℕ

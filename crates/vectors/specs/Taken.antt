@@ -1,27 +1,23 @@
--- The states of a line, and what one byte of it does where a digit may stand. These are definitions: they assume nothing.
-use Rattle.std.specs.Prelude.{ℕ, ◌+◌, ◌*◌, ◌<◌, min, ◌≡◌, Bool, true, false, cond, ◌&&◌, List, eqb, leb, ltb}
+-- What is read of a line, and what one byte of it does where a digit may stand. These are definitions: they assume nothing.
+use Rattle.std.specs.Prelude.{ℕ, ◌+◌, ◌*◌, ◌<◌, min, ◌≡◌, cond, ◌&&◌, replicate, Result, Ok, Err, eqb, leb, ltb}
 use Rattle.frame.specs.Limits.{max_command}
 use Rattle.vectors.specs.declared.line.Part.{Part}
 use Rattle.vectors.specs.declared.line.Part.TheVariants.{Digits, Note, Comment, NotHex, TooLong}
-use Rattle.vectors.specs.declared.line.State.{State}
+use Rattle.vectors.specs.declared.line.Reading.{Reading}
 use Rattle.text.specs.Digit.{digit_of}
 use Rattle.vectors.specs.Digits.{digit_at}
 
 -- before the first byte
-abbrev pub first_line : State
-first_line = record { number = 1; held = 0; part = Digits; is_going = true }
-
--- the same line, and nothing more is read
-abbrev pub ended_at : State → State
-ended_at s = record { number = s.number; held = s.held; part = s.part; is_going = false }
+abbrev pub first_line : Reading
+first_line = record { number = 1; held = 0; part = Digits; item = replicate max_command 0 }
 
 -- a line's number and the next one's; the last that 64 bits hold stays
 abbrev pub following : ℕ → ℕ
 following number = min (number + 1) 18446744073709551615
 
 -- the next line, none of it read
-abbrev pub line_after : State → Bool → State
-line_after s going = record { number = following s.number; held = 0; part = Digits; is_going = going }
+abbrev pub line_after : Reading → Reading
+line_after s = record { number = following s.number; held = 0; part = Digits; item = s.item }
 
 -- the part that follows: a space or a tab begins a note, `#` in front a comment, and a digit past the 4,096th is one too many
 unfoldable pub part_after : ℕ → ℕ → Part
@@ -33,20 +29,26 @@ part_after held b =
     (cond (leb (2 * max_command) held) TooLong
     Digits))))
 
--- the same line in a part
-abbrev pub in_part : State → Part → State
-in_part s p = record { number = s.number; held = s.held; part = p; is_going = s.is_going }
+-- the value of a digit that counts, or any other part
+abbrev pub digit_or : ℕ → Part → Result ℕ Part
+digit_or d Digits = Ok d
+digit_or d Note = Err Note
+digit_or d Comment = Err Comment
+digit_or d NotHex = Err NotHex
+digit_or d TooLong = Err TooLong
 
--- the same line in the part that a byte leads to: where that is digits, the byte was one, and counts
-abbrev pub in_next : State → Part → State
-in_next s Digits = record { number = s.number; held = s.held + 1; part = Digits; is_going = s.is_going }
-in_next s Note = in_part s Note
-in_next s Comment = in_part s Comment
-in_next s NotHex = in_part s NotHex
-in_next s TooLong = in_part s TooLong
+-- how many digits there are in the part that a byte leads to: where that is digits, the byte was one, and counts
+abbrev pub held_in : ℕ → Part → ℕ
+held_in held Digits = held + 1
+held_in held Note = held
+held_in held Comment = held
+held_in held NotHex = held
+held_in held TooLong = held
 
--- the state after the byte b; a digit that counts stands in the item, behind those before it
-pub record Taken (s : State) (b : ℕ) (old : List ℕ) (r : State) (new : List ℕ) : Type 0 where
-  pub next : r ≡ in_next s (part_after s.held b)
-  pub kept : (j : ℕ) → j < s.held → digit_at new j ≡ digit_at old j
-  pub counted : s.held < r.held → digit_at new s.held ≡ digit_of b
+-- what is read after the byte b; a digit that counts stands in the item, behind those before it
+pub record Taken (s : Reading) (b : ℕ) (r : Reading) : Type 0 where
+  pub same_line : r.number ≡ s.number
+  pub part : r.part ≡ part_after s.held b
+  pub held : r.held ≡ held_in s.held (part_after s.held b)
+  pub kept : (j : ℕ) → j < s.held → digit_at r.item j ≡ digit_at s.item j
+  pub counted : s.held < r.held → digit_at r.item s.held ≡ digit_of b

@@ -1,34 +1,25 @@
--- `command_map::read_fields` meets its contract. The loop's invariant: what is left to read, to judge and to keep is the entries from p on.
--- The measure is the number of entries left. Assumes nothing.
-use mathlib.Core.Path.{◌≡◌, refl, sym, ◌∙◌}
-use mathlib.Core.List.{List, foldl}
-use Prim.Native.Nat.{ℕ}
-use Rattle.std.proofs.Common.{arith}
-use Rattle.cbor.specs.declared.Next.{Next}
-use Rattle.entries.specs.Entries.{entries}
-use Rattle.double_keys.proofs.RowLaws.{Over, begun, finished, broken, turn}
-use Rattle.command_map.specs.declared.Judged.{Judged}
-use Rattle.command_map.specs.Walk.{none_judged, judge, Walked}
+-- `command_map::read_fields` meets its contract: the walk stops where there is no entry, or goes on with the next.
+-- Assumes nothing.
+use Rattle.std.proofs.Common.{◌≡◌, ◌+◌, ◌-◌, refl, sym, ◌∙◌, arith}
+use Rattle.double_keys.proofs.RowLaws.{begun, finished, broken, turn}
+use Rattle.command_map.proofs.Judgement.{next-judged}
 use Rattle.command_map.proofs.read_fields.Goals as goal
 
--- what the end of the walk shows
-walked : {s : List ℕ} {n at p left k : ℕ} {starts stops : List ℕ} {end : Next} {j : Judged} → foldl (judge s) none_judged (entries s 7 n at) ≡ foldl (judge s) j (entries s 7 left p)
-    → Over s 7 n at starts stops p left k end → Walked s n at starts stops (record { end = end; judged = j; kept = k })
-walked h o = record { ends = o.place; judged = sym (h ∙ rw o.none); same = o.same }
+pub loop-init : goal.loop-init
+loop-init c = let e : c.args.n - 0 ≡ c.args.n = omega arith in (rw e refl, rw e (begun _ _ _ _ _ _))
 
-pub loop-left-init : goal.loop-left-init
-loop-left-init c = (refl, begun _ _ _ _ _ _)
+pub returns-in_err-e : goal.returns-in_err-e
+returns-in_err-e c = rw c.from_residual.ensures (broken c.loop.invariant.1 (omega arith) c.in_err-e.ensures).place
 
-pub returns-in_default : goal.returns-in_default
-returns-in_default c =
-    let i = c.loop-left.invariant in
-    walked i.0 (broken i.1 c.loop-left-test.true c.read_entry-e.ensures c.next_of.ensures c.in_default.is)
-
-pub loop-left-preserved : goal.loop-left-preserved
-loop-left-preserved c =
-    let i = c.loop-left.invariant in
-    let g = turn i.1 c.loop-left-test.true c.read_entry-e.ensures c.next_of.ensures c.in-At.is c.keep-kept.ensures in
-    (i.0 ∙ rw (g.first, c.judge-judged.ensures), g.on)
+pub loop-preserved : goal.loop-preserved
+loop-preserved c =
+    let i = c.loop.invariant in
+    let n : c.args.n - (c.loop.counter + 1) ≡ c.args.n - c.loop.counter - 1 = omega arith in
+    let g = turn i.1 (omega arith) c.in_ok-e.ensures c.keep-kept.ensures in
+    (i.0 ∙ rw (g.first, next-judged _ _ _ _ c.and_then-judged.ensures, n, c.next-p.ensures), rw (n, c.next-p.ensures) g.on)
 
 pub returns : goal.returns
-returns c = let i = c.loop-left.invariant in walked i.0 (finished i.1 (omega arith))
+returns c =
+    let i = c.loop.invariant in
+    let o = finished i.1 (omega arith) in
+    record { ends = o.place; all = sym (i.0 ∙ rw o.none); same = o.same }

@@ -1,42 +1,31 @@
 -- `double_keys::keep_keys` meets its contract. The loop's invariant: the keys passed are byte strings, and the row has them.
--- The measure is the number of entries left. Assumes nothing.
-use mathlib.Core.Path.{◌≡◌, refl, sym, ◌∙◌}
-use mathlib.Core.List.{List}
-use Prim.Native.Nat.{ℕ}
-use Rattle.std.proofs.Common.{arith}
-use Rattle.cbor.specs.declared.Next.{Next}
-use Rattle.entries.specs.Entries.{all, is_keyed, entries}
-use Rattle.double_keys.specs.Row.{Holds}
-use Rattle.entries.proofs.Walk.{goes}
-use Rattle.double_keys.proofs.RowLaws.{Over, begun, finished, broken, turn}
+-- Assumes nothing.
+use Rattle.std.proofs.Common.{refl, sym, ◌∙◌}
+use mathlib.Core.List.{append-nil}
+use Rattle.entries.specs.Entries.{all, contents}
+use Rattle.double_keys.proofs.RowLaws.{begun, turn}
+use Rattle.double_keys.proofs.BlockLaws.{first}
 use Rattle.double_keys.proofs.keep_keys.Goals as goal
 
--- what the end of the walk shows
-holds : {s : List ℕ} {levels n at p left k : ℕ} {starts stops : List ℕ} {end : Next} → all is_keyed (entries s levels n at) ≡ all is_keyed (entries s levels left p)
-    → Over s levels n at starts stops p left k end → Holds s (entries s levels n at) starts stops k
-unfolding all
-holds h o = record { strings = h ∙ rw o.none; within = o.within; same = o.same }
-
-pub loop-left-init : goal.loop-left-init
-loop-left-init c = (refl, begun _ _ _ _ _ _)
-
-pub returns-in_default : goal.returns-in_default
-returns-in_default c =
-    let i = c.loop-left.invariant in
-    holds i.0 (broken i.1 c.loop-left-test.true c.read_entry-e.ensures c.next_of.ensures c.in_default.is)
+pub loop-e-init : goal.loop-e-init
+loop-e-init c = rw c.into_iter-e-iterator.ensures.into_iter_gives (tt, tt, refl, refl, refl, begun _ _ _ _ _ _)
 
 pub returns-then-not-is_keyed : goal.returns-then-not-is_keyed
 unfolding all
 returns-then-not-is_keyed c =
-    let g = goes _ _ _ _ _ _ c.loop-left-test.true c.read_entry-e.ensures c.next_of.ensures _ c.in-At.is in
-    c.loop-left.invariant.0 ∙ rw (g, sym c.is_keyed.ensures ∙ c.if-not-is_keyed.true)
+    c.loop-e.invariant.4 ∙ rw (first c.loop-e.e-iterator c.next.new.self c.in-Some.e c.in-Some.ensures.steps, sym c.is_keyed.ensures ∙ c.if-not-is_keyed.true)
 
-pub loop-left-preserved : goal.loop-left-preserved
+pub loop-e-preserved : goal.loop-e-preserved
 unfolding all
-loop-left-preserved c =
-    let i = c.loop-left.invariant in
-    let g = turn i.1 c.loop-left-test.true c.read_entry-e.ensures c.next_of.ensures c.in-At.is c.keep-k.ensures in
-    (i.0 ∙ rw (g.first, sym c.is_keyed.ensures ∙ c.if-not-is_keyed.false), g.on)
+loop-e-preserved c =
+    let i = c.loop-e.invariant in
+    let g = c.in-Some.ensures.steps in
+    let read = rw (i.2, i.3) at g.0.1 in
+    (tt, tt, g.1 ∙ i.2, g.2 ∙ i.3, i.4 ∙ rw (first c.loop-e.e-iterator c.next.new.self c.in-Some.e g, sym c.is_keyed.ensures ∙ c.if-not-is_keyed.false), rw (g.0.2, g.0.3) (turn i.5 g.0.0 read c.keep-k.ensures).on)
 
 pub returns : goal.returns
-returns c = let i = c.loop-left.invariant in holds i.0 (finished i.1 (omega arith))
+unfolding all contents
+returns c =
+    let i = c.loop-e.invariant in
+    let e = rw (i.2, i.3) at c.in-None.ensures.steps.0.0 in
+    record { strings = i.4 ∙ rw (i.2, i.3, e); within = i.5.within; same = λ h. i.5.same h ∙ rw (e, append-nil) }

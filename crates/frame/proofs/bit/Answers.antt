@@ -1,6 +1,6 @@
 -- `frame::bit` meets its contract.
 -- Assumes nothing.
-use Rattle.std.proofs.Common.{◌≡◌, Bool, true, false, refl}
+use Rattle.std.proofs.Common.{◌≡◌, Bool, true, false, refl, ◌∙◌}
 use mir.Val.{bool_byte}
 use Rattle.frame.specs.Records.{bit}
 use Rattle.frame.proofs.bit.Goals as goal
@@ -11,4 +11,4 @@ bit_byte true = refl
 bit_byte false = refl
 
 pub returns : goal.returns
-returns c = bit_byte _
+returns c = c.from.ensures ∙ bit_byte _

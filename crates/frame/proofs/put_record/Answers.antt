@@ -27,4 +27,4 @@ returns-then-out-at c = (size _ _ _ _, sym (write-out _ _ _ c.if-out-at.true))
 pub returns : goal.returns
 returns c =
     let a = c.args in
-    (size a.kind a.request a.third a.bytes.now, c.put-2.ensures ∙ rw c.put.ensures (in_two a.out.now a.at a.kind a.request a.third a.bytes.now))
+    (size a.kind a.request a.third a.bytes.now, c.put-2.ensures ∙ rw (c.put.ensures, c.to_le_bytes-size.ensures, c.to_le_bytes-kind.ensures, c.to_le_bytes-request.ensures) (in_two a.out.now a.at a.kind a.request a.third a.bytes.now))

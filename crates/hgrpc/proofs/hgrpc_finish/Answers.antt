@@ -1,11 +1,18 @@
--- `hgrpc::hgrpc_finish` meets its contract, by the check of the state, the finish, and the state put back.
+-- `hgrpc::hgrpc_finish` meets its contract, by the state read, the finish, and the state put back.
 -- Assumes nothing.
-use Rattle.std.proofs.Common.{sym, ◌∙◌}
-use Rattle.hgrpc.proofs.CallLaws.{finish-none, finish-done}
+use Rattle.std.proofs.Common.{ap}
+use Rattle.channel.specs.Channel.{finished}
+use Rattle.hgrpc.proofs.CallLaws.{opened, closed, finish-none, finish-done}
 use Rattle.hgrpc.proofs.hgrpc_finish.Goals as goal
 
-pub returns-then-not-is_state : goal.returns-then-not-is_state
-returns-then-not-is_state c = finish-none _ _ (sym c.is_state.ensures ∙ c.if-not-is_state.true)
+pub returns-in_default : goal.returns-in_default
+returns-in_default c = finish-none _ _ (closed _ _ c.in_default.is c.read.ensures)
 
-pub returns : goal.returns
-returns c = finish-done _ _ (sym c.is_state.ensures ∙ c.if-not-is_state.false) _ _ _ c.state_of-channel.ensures c.finish-finished.ensures c.put_state.ensures
+pub returns-in-Ok : goal.returns-in-Ok
+returns-in-Ok c =
+    finish-done _ _ _ (opened _ _ _ c.in-Some.is c.read.ensures) c.finish.result _ _ c.finish.ensures (ap (finished c.in-Some.channel) c.in-Ok.is) c.put_state.ensures
+
+pub returns-in-Err : goal.returns-in-Err
+returns-in-Err c =
+    rw c.from.ensures
+    (finish-done _ _ _ (opened _ _ _ c.in-Some.is c.read.ensures) c.finish.result _ _ c.finish.ensures (ap (finished c.in-Some.channel) c.in-Err.is) c.put_state-in-Err.ensures)

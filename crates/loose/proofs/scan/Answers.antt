@@ -24,9 +24,13 @@ loop-p-preserved-then-b-lt24 c =
 
 -- ---- the bytes behind it tell
 
-pub loop-p-preserved-then-p-q : goal.loop-p-preserved-then-p-q
-loop-p-preserved-then-p-q c =
-    c.loop-p.invariant ∙ goes_on _ _ _ c.loop-p-test.true c.skip-q.ensures c.if-p-q.true
+pub loop-p-smaller-in-Some : goal.loop-p-smaller-in-Some
+loop-p-smaller-in-Some c =
+    let skips = c.in-Some.ensures in
+    nearer _ _ c.loop-p-test.true _ refl _ skips.on
+
+pub loop-p-preserved-in-Some : goal.loop-p-preserved-in-Some
+loop-p-preserved-in-Some c = c.loop-p.invariant ∙ goes_on _ _ _ c.loop-p-test.true c.in-Some.ensures
 
 -- ---- the number is read
 

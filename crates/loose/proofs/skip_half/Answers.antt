@@ -8,4 +8,5 @@ pub returns : goal.returns
 returns c =
     let p = c.requires in
     let small : (j : ℕ) → get_or c.args.s.now j 0 < 256 = λ j. omega (arith, c.type_inv.s j) in
-    by_half _ _ _ _ _ p.1 (omega (arith, c.if-s-next.false, p.0, p.1.most)) small (omega (arith, c.if-half-zeros.false)) (c.zeros.ensures (omega (arith, c.if-half-zeros.false))) refl
+    let set = c.in_ok-first_set.ensures in
+    by_half _ _ _ _ _ p.1 (omega (arith, c.if-s-next.false, p.0, p.1.most)) small set.0 set.1 refl

@@ -36,10 +36,10 @@ module _ (s : List ℕ) (at : ℕ) (o : get_or s at 0 / 32 ≡ 2 → ⊥) where
       (λ n a b. rw (le-ltb n 24 (omega arith), le-ltb n 256 (omega arith), le-ltb n 65536 (omega arith), le-ltb n 4294967296 (omega arith)))
 
 pub skip_half-requires : goal.skip_half-requires
-skip_half-requires c = (c.requires, two _ _ c.if-b-eq2.false c.if-b-eq25.true)
+skip_half-requires c = (c.requires, two _ _ c.if-b-eq2.false c.in-25.is)
 
-pub skip_half-requires-then-b-eq26 : goal.skip_half-requires-then-b-eq26
-skip_half-requires-then-b-eq26 c = (c.requires, four _ _ c.if-b-eq2.false c.if-b-eq26.true)
+pub skip_half-requires-in-26 : goal.skip_half-requires-in-26
+skip_half-requires-in-26 c = (c.requires, four _ _ c.if-b-eq2.false c.in-26.is)
 
-pub skip_half-requires-then-b-eq27 : goal.skip_half-requires-then-b-eq27
-skip_half-requires-then-b-eq27 c = (c.requires, eight _ _ c.if-b-eq2.false c.if-b-eq27.true)
+pub skip_half-requires-in-27 : goal.skip_half-requires-in-27
+skip_half-requires-in-27 c = (c.requires, eight _ _ c.if-b-eq2.false c.in-27.is)

@@ -1,13 +1,31 @@
 -- `requests::slots_fit` meets its contract: the first slot that does not fit, or is not apart, refuses them all; each other one is counted.
--- Assumes nothing.
-use Rattle.std.proofs.Common.{◌≡◌, ℕ, ◌≤◌, true, false, ◌&&◌, List, sym, ◌∙◌, arith}
+use Rattle.std.proofs.Common.{◌≡◌, ℕ, ◌+◌, ◌≤◌, Bool, true, false, ◌&&◌, List, [], ◌∷◌, length, refl, sym, ◌∙◌, ap, arith, rules}
 use lib.Dec.{eqb}
 use Rattle.requests.specs.declared.Slot.{Slot}
-use Rattle.requests.specs.Phases.{free_slot}
-use Rattle.requests.specs.Slots.{slots_fit, used_bit, used_count}
-use Rattle.requests.proofs.Loops.{fits_more, fits_fail, apart_fail, fits-none, used-more, used-none}
+use Rattle.requests.specs.Slots.{slot_fits, apart, slots_fit, used_bit, used_count}
 use Rattle.requests.proofs.UsedLaws.{at_most_one}
 use Rattle.requests.proofs.slots_fit.Goals as goal
+use Rattle.requests.proofs.slots_fit.Goals.{then-not-fits-via-then-not-fits, then-not-fits-via-else-not-fits+then-not-is_apart}
+
+-- the slots that are left, by the first of them
+first-is : (rest : List Slot) (x : Slot) (xs : List Slot) (a b : Bool) → rest ≡ x ∷ xs → slot_fits x ≡ a → apart x xs ≡ b → slots_fit rest ≡ (a && b && slots_fit xs)
+unfolding slots_fit
+first-is rest x xs a b e f g = rw (e, f, g)
+
+used-is : (rest : List Slot) (x : Slot) (xs : List Slot) → rest ≡ x ∷ xs → used_count rest ≡ used_bit x + used_count xs
+unfolding used_count
+used-is rest x xs e = rw e
+
+-- none is left
+none-fit : (rest : List Slot) → length rest ≡ 0 → slots_fit rest ≡ true
+unfolding slots_fit
+none-fit [] e = refl
+none-fit (x ∷ xs) e = absurd (omega arith)
+
+none-used : (rest : List Slot) → length rest ≡ 0 → used_count rest ≡ 0
+unfolding used_count
+none-used [] e = refl
+none-used (x ∷ xs) e = absurd (omega arith)
 
 -- slots that do not fit are refused, whatever the count
 unfit : (slots : List Slot) (count : ℕ) → slots_fit slots ≡ false → false ≡ (slots_fit slots && eqb count (used_count slots))
@@ -17,36 +35,32 @@ unfit slots count e = rw e
 all_fit : (slots : List Slot) (count used : ℕ) → slots_fit slots ≡ true → used ≡ used_count slots → eqb count used ≡ (slots_fit slots && eqb count (used_count slots))
 all_fit slots count used e f = rw (e, f)
 
--- a slot counts for at most one
-small : (x : Slot) (n : ℕ) → n ≡ used_bit x → n ≤ 1
-small x n e = rw e (at_most_one x)
-
 pub returns-then-not-fits : goal.returns-then-not-fits
 returns-then-not-fits c =
-    let l = c.loop-i in
-    unfit c.args.slots _ (l.invariant.2 ∙ fits_fail c.args.slots free_slot l.i (omega arith) (sym c.fits.ensures ∙ c.if-not-fits.true))
-
-pub returns-then-not-is_apart : goal.returns-then-not-is_apart
-returns-then-not-is_apart c =
-    let l = c.loop-i in
-    unfit c.args.slots _ (l.invariant.2 ∙ apart_fail c.args.slots free_slot l.i (omega arith) (sym c.fits.ensures ∙ c.if-not-fits.false) (sym c.is_apart.ensures ∙ c.if-not-is_apart.true))
+    let e : c.loop-s.rest.now ≡ c.in-Some.s.now ∷ c.in-Some.later.now = search rules in
+    let h : slots_fit c.loop-s.rest.now ≡ false =
+    elim c.then-not-fits.branch [
+      | then-not-fits-via-then-not-fits w ↦ first-is _ _ _ _ _ e (sym c.fits.ensures ∙ w.if-not-fits.true) refl
+      | then-not-fits-via-else-not-fits+then-not-is_apart w ↦ first-is _ _ _ _ _ e (sym c.fits.ensures ∙ w.if-not-fits.false) (sym w.is_apart.ensures ∙ w.if-not-is_apart.true)
+    ] in
+    unfit c.args.slots.now _ (c.loop-s.invariant.1 ∙ h)
 
 pub overflow_add-used : goal.overflow_add-used
-overflow_add-used c = record { fits = omega (arith, small _ _ c.used_bit-used.ensures) }
+overflow_add-used c =
+    let one : c.used_bit-used.result ≤ 1 = rw c.used_bit-used.ensures (at_most_one c.in-Some.s.now) in
+    let e : c.loop-s.rest.now ≡ c.in-Some.s.now ∷ c.in-Some.later.now = search rules in
+    record { fits = omega (arith, ap length e) }
 
-pub loop-i-preserved : goal.loop-i-preserved
-loop-i-preserved c =
-    let l = c.loop-i in
-    let slots = c.args.slots in (
-      omega arith,
-      l.invariant.1,
-      l.invariant.2 ∙ fits_more slots free_slot l.i (omega arith) (sym c.fits.ensures ∙ c.if-not-fits.false) (sym c.is_apart.ensures ∙ c.if-not-is_apart.false),
-      omega (arith, small _ _ c.used_bit-used.ensures),
-      omega (arith, used-more slots free_slot l.i (omega arith), c.used_bit-used.ensures),
+pub loop-s-preserved : goal.loop-s-preserved
+loop-s-preserved c =
+    let e : c.loop-s.rest.now ≡ c.in-Some.s.now ∷ c.in-Some.later.now = search rules in
+    let one : c.used_bit-used.result ≤ 1 = rw c.used_bit-used.ensures (at_most_one c.in-Some.s.now) in (
+      omega (arith, ap length e),
+      c.loop-s.invariant.1 ∙ first-is _ _ _ true true e (sym c.fits.ensures ∙ c.if-not-fits.false) (sym c.is_apart.ensures ∙ c.if-not-is_apart.false),
+      omega (arith, used-is _ _ _ e, c.used_bit-used.ensures),
     )
 
 pub returns : goal.returns
 returns c =
-    let l = c.loop-i in
-    let slots = c.args.slots in
-    all_fit slots _ _ (l.invariant.2 ∙ fits-none slots free_slot l.i (omega arith)) (omega (arith, l.invariant.4, used-none slots free_slot l.i (omega arith)))
+    let none : length c.loop-s.rest.now ≡ 0 = search rules in
+    all_fit c.args.slots.now _ _ (c.loop-s.invariant.1 ∙ none-fit _ none) (omega (arith, none-used _ none))

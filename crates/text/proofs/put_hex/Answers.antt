@@ -1,7 +1,8 @@
 -- `text::put_hex` meets its contract: each byte puts its two digits, and where the loop ends nothing is left, or half a byte.
 -- Assumes nothing.
-use Rattle.std.proofs.Common.{◌≡◌, ℕ, suc, ◌+◌, ◌-◌, ◌*◌, ◌/◌, ◌%◌, ◌≤◌, ◌<◌, min, List, [], ◌∷◌, length, drop, set, get_or, sym, ◌∙◌, add-one, arith, drop-cons}
-use lib.ListN.{length-set, drop_of_length-le}
+use Rattle.std.proofs.Common.{◌≡◌, ℕ, suc, ◌+◌, ◌-◌, ◌*◌, ◌/◌, ◌%◌, ◌≤◌, ◌<◌, min, List, [], ◌∷◌, length, take, drop, set, get_or, sym, ◌∙◌, add-one, arith, drop-cons}
+use lib.ListN.{length-set, length-take, drop_of_length-le}
+use Rattle.std.proofs.lemmas.List.{get_or-take}
 use Rattle.buffer.specs.Bytes.{write}
 use Rattle.buffer.proofs.WriteLaws.{write-none, write-set, write-past}
 use Rattle.text.specs.Text.{glyph_of, hex_of}
@@ -22,31 +23,45 @@ module _ (out : List ℕ) (p : ℕ) (s : List ℕ) (i : ℕ) (h : i < length s) 
 cut : (at size n i p : ℕ) → i ≡ (n - at) / 2 → i < size → p ≡ at + 2 * i → p + min 1 (n - p) ≡ at + min (2 * size) (n - at)
 cut at size n i p e h k = omega arith
 
-pub loop-i-preserved : goal.loop-i-preserved
-loop-i-preserved c =
-    let l = c.loop-i in
-    (omega arith, omega arith, simp length-set l.invariant.2, l.invariant.3 ∙ rw (c.glyph-in-loop-i.ensures, c.glyph.ensures) (step l.out l.p c.args.bytes.now l.i (omega arith)))
+-- a place of the first k bytes
+inside : (k i : ℕ) (s : List ℕ) → i < length (take k s) → i < k
+inside k i s h = omega (arith, length-take k s)
 
-pub returns-then-i-bytes : goal.returns-then-i-bytes
-returns-then-i-bytes c =
+pub loop-b-preserved : goal.loop-b-preserved
+loop-b-preserved c =
+    let l = c.loop-b in
+    let s = c.args.bytes.now in
+    let i = l.b-index in
+    let byte : get_or (take c.min-n.result s) i 0 ≡ get_or s i 0 = get_or-take c.min-n.result s i 0 (inside c.min-n.result i s (omega arith)) in
+    let high = rw byte at c.glyph.ensures in
+    let low = rw byte at c.glyph-in-loop-b.ensures in
+    (omega (arith, l.invariant.0), simp length-set l.invariant.1, l.invariant.2 ∙ rw (low, high) (step l.out l.p s i (omega (arith, length-take c.min-n.result s))))
+
+pub returns-then-n-bytes : goal.returns-then-n-bytes
+returns-then-n-bytes c =
     let b = c.put.ensures in
-    let l = c.loop-i in
+    let l = c.loop-b in
     let s = c.args in
-    let full : l.i ≡ (length s.out.now - s.at) / 2 = omega (arith, c.least-n.ensures, c.room.ensures) in
-    let t = tail l.out l.p s.bytes.now l.i (omega arith) (omega arith) in
+    let n = c.min-n.result in
+    let all : l.b-index ≡ n = omega (arith, length-take n s.bytes.now) in
+    let full : n ≡ (length s.out.now - s.at) / 2 = omega (arith, c.min-n.ensures, c.saturating_sub.ensures) in
+    let p : l.p ≡ s.at + 2 * n = omega (arith, l.invariant.0, all) in
+    let t = tail l.out l.p s.bytes.now n (omega arith) (omega (arith, l.invariant.1)) in
     record {
-      buffer = b.buffer ∙ rw c.glyph-then-i-bytes.ensures (sym (l.invariant.3 ∙ t));
-      next = b.next ∙ rw (hex_length s.bytes.now, l.invariant.2) (cut s.at (length s.bytes.now) (length s.out.now) l.i l.p full (omega arith) l.invariant.1);
+      buffer = b.buffer ∙ rw c.glyph-then-n-bytes.ensures (sym ((rw all at l.invariant.2) ∙ t));
+      next = b.next ∙ rw (hex_length s.bytes.now, l.invariant.1) (cut s.at (length s.bytes.now) (length s.out.now) n l.p full (omega arith) p);
     }
 
 pub returns : goal.returns
 unfolding hex_of
 returns c =
-    let l = c.loop-i in
+    let l = c.loop-b in
     let s = c.args in
-    let h : length s.bytes.now ≤ l.i = omega arith in
-    let none : drop l.i s.bytes.now ≡ [] = drop_of_length-le s.bytes.now h in
+    let n = c.min-n.result in
+    let all : l.b-index ≡ length s.bytes.now = omega (arith, length-take n s.bytes.now, c.min-n.ensures) in
+    let h : length s.bytes.now ≤ l.b-index = omega arith in
+    let none : drop l.b-index s.bytes.now ≡ [] = drop_of_length-le s.bytes.now h in
     record {
-      buffer = sym (l.invariant.3 ∙ rw none (write-none l.out l.p));
-      next = rw (hex_length s.bytes.now) (omega arith);
+      buffer = sym (l.invariant.2 ∙ rw none (write-none l.out l.p));
+      next = rw (hex_length s.bytes.now) (omega (arith, l.invariant.0, all, c.min-n.ensures, c.saturating_sub.ensures));
     }

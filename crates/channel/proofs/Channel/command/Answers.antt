@@ -4,6 +4,7 @@ use Prim.Native.Nat.{ℕ, ◌+◌, ◌-◌, ◌≤◌, ◌<◌}
 use mathlib.Core.Path.{◌≡◌, sym, ap, ◌∙◌}
 use mathlib.Core.Bool.{Bool, true, false}
 use mathlib.Core.List.{List, []}
+use Rattle.std.specs.Prelude.{Some}
 use native.Mathlib.Omega.{arith}
 use lib.ListN.{length, take, drop}
 use Rattle.buffer.specs.Bytes.{write}
@@ -18,19 +19,20 @@ use Rattle.rules.specs.Rules.{check_of, command_byte}
 use Rattle.session.specs.Session.{Feed}
 use Rattle.channel.specs.declared.Channel.{Channel}
 use Rattle.channel.specs.declared.Fed.{Fed}
-use Rattle.requests.specs.Slots.{collected}
-use Rattle.channel.specs.Receiver.{Receiver, command}
+use Rattle.requests.specs.Slots.{place_at, collected}
+use Rattle.requests.proofs.Search.{at-some, at-place}
+use Rattle.rules.specs.Stages.{number_of, broken_of}
+use Rattle.rules.proofs.RuleLaws.{number-some, ok-zero}
+use Rattle.channel.specs.Receiver.{Receiver, with_slot, command}
 use Rattle.channel.specs.Channel.{fed_with}
 use Rattle.channel.specs.Steps.{judged_into, Passed, refused_with, accepted_with}
 use Rattle.channel.proofs.Handed.{eight}
-use Rattle.channel.proofs.JudgeLaws.{met-same, passes_same, has_room, read_back, answers-more, answers-refused, answers-command}
+use Rattle.channel.proofs.JudgeLaws.{target_in, met-same, passes_same, has_room, read_back, answers-more, answers-refused, answers-command}
+use borrow.Author.Rules.{rules}
 use Rattle.channel.proofs.Channel.command.Goals as goal
 
 -- the contract over plain values, with what the caller shows and the number of the slots
 module _ {s : Channel} {h : Header} {m : Met} {w : List ℕ} (kind : h.kind ≡ 1) (p : Passed s h m w) (count : length s.slots ≡ slot_count) (out : List ℕ) (done : ℕ) where
-  abbrev start : ℕ
-  start = part_start m.target
-
   abbrev size : ℕ
   size = m.held + h.length
 
@@ -40,89 +42,110 @@ module _ {s : Channel} {h : Header} {m : Met} {w : List ℕ} (kind : h.kind ≡ 
   kind-same : (header_of w).kind ≡ 1
   kind-same = rw p.header at kind
 
-  room : (m.target < slot_count) × (size ≤ max_command)
-  room = rw (met-same p, p.header) (has_room p.frame count out done (passes_same p) kind-same)
+  fits_in : (target_in s (header_of w) < slot_count) × (size ≤ max_command)
+  fits_in = rw (met-same p, p.header) (has_room p.frame count out done (passes_same p) kind-same)
 
-  -- the work area and the slot as the calls leave them
-  module _ (w' : List ℕ) (x : Slot) (w-is : w' ≡ write w (start + m.held) (take h.length (drop 8 w))) (x-is : x ≡ collected (framed h []) size) where
-    abbrev part : List ℕ
-    part = take (start + size - start) (drop start w')
+  met-target : m.target ≡ place_at (target_in s (header_of w))
+  met-target = ap (λ (k : Met). k.target) (met-same p)
 
-    part-is : part ≡ command s (frame_of w) w
-    part-is =
-        let n : start + size - start ≡ size = omega arith in
-        rw (n, w-is, met-same p, p.header) (read_back p.frame count out done (passes_same p) kind-same)
+  -- the slot was found
+  there : m.target ≡ Some (target_in s (header_of w))
+  there = met-target ∙ at-place _ fits_in.0
 
-    goes_on : (r : Fed) → is_more (framed h []) ≡ true → r ≡ accepted_with s h m.target x 0 → fed_with r w' out ≡ whole
-    goes_on r q r-is =
-        rw (r-is, x-is, w-is, met-same p, p.header)
-        (sym (answers-more p.frame count out done (passes_same p) kind-same (rw p.header at q)))
+  -- the slot's index
+  module _ (t : ℕ) (t-is : m.target ≡ Some t) where
+    same : t ≡ target_in s (header_of w)
+    same = (at-some _ _ (sym met-target ∙ t-is)).0
 
-    -- the frame ends its command, and n is the number of its check
-    module _ (n : ℕ) (q : is_more (framed h []) ≡ false) (n-is : n ≡ check_of part) where
-      stops : (r : Fed) → (n ≡ 0 → ⊥) → r ≡ refused_with s n → fed_with r w' out ≡ whole
-      stops r o r-is =
-          rw (r-is, w-is, met-same p, p.header)
-          (sym (answers-refused p.frame count out done (passes_same p) kind-same (rw p.header at q) n (sym (n-is ∙ ap check_of part-is)) o))
+    room : (t < slot_count) × (size ≤ max_command)
+    room = (rw same (fits_in.0), fits_in.1)
 
-      runs : (r : Fed) (b : Bool) (third l : ℕ) (out' : List ℕ) → n ≡ 0 → b ≡ data_follows (framed h []) → third ≡ command_byte b part → let new = request_record 1 h.request third part in
-          (l ≡ length new) × (out' ≡ write out done new) → r ≡ accepted_with s h m.target x l → fed_with r w' out' ≡ whole
-      runs r b third l out' z b-is third-is (l-is, out-is) r-is =
-          rw (r-is, l-is, out-is, third-is, part-is, b-is, x-is, w-is, met-same p, p.header)
-          (sym (answers-command p.frame count out done (passes_same p) kind-same (rw p.header at q) (sym (n-is ∙ ap check_of part-is) ∙ z)))
+    abbrev start : ℕ
+    start = part_start t
+
+    -- the work area and the state as the calls leave them
+    module _ (w' : List ℕ) (x : Slot) (next : Channel) (w-is : w' ≡ write w (start + m.held) (take h.length (drop 8 w))) (x-is : x ≡ collected (framed h []) size) (next-is : next ≡ with_slot s t x) where
+      abbrev part : List ℕ
+      part = take (start + size - start) (drop start w')
+
+      part-is : part ≡ command s (frame_of w) w
+      part-is =
+          let n : start + size - start ≡ size = omega arith in
+          rw (n, w-is, same, met-same p, p.header) (read_back p.frame count out done (passes_same p) kind-same)
+
+      goes_on : (r : Fed) → is_more (framed h []) ≡ true → r ≡ accepted_with next h 0 → fed_with r w' out ≡ whole
+      goes_on r q r-is =
+          rw (r-is, next-is, x-is, w-is, same, met-same p, p.header)
+          (sym (answers-more p.frame count out done (passes_same p) kind-same (rw p.header at q)))
+
+      -- the frame ends its command, and n is the number of its check
+      module _ (n : ℕ) (q : is_more (framed h []) ≡ false) (n-is : n ≡ check_of part) where
+        stops : (r : Fed) → (n ≡ 0 → ⊥) → r ≡ refused_with s n → fed_with r w' out ≡ whole
+        stops r o r-is =
+            rw (r-is, w-is, same, met-same p, p.header)
+            (sym (answers-refused p.frame count out done (passes_same p) kind-same (rw p.header at q) n (sym (n-is ∙ ap check_of part-is)) o))
+
+        runs : (r : Fed) (b : Bool) (third l : ℕ) (out' : List ℕ) → n ≡ 0 → b ≡ data_follows (framed h []) → third ≡ command_byte b part → let new = request_record 1 h.request third part in
+            (l ≡ length new) × (out' ≡ write out done new) → r ≡ accepted_with next h l → fed_with r w' out' ≡ whole
+        runs r b third l out' z b-is third-is (l-is, out-is) r-is =
+            rw (r-is, next-is, l-is, out-is, third-is, part-is, b-is, x-is, w-is, same, met-same p, p.header)
+            (sym (answers-command p.frame count out done (passes_same p) kind-same (rw p.header at q) (sym (n-is ∙ ap check_of part-is) ∙ z)))
 
 -- where the payload goes is within the work area, before and after it is put
-module _ {s : Channel} {h : Header} {m : Met} {w : List ℕ} (r : (h.kind ≡ 1) × Passed s h m w) (count : length s.slots ≡ slot_count) where
-  fits : (m.target < slot_count) × (m.held + h.length ≤ max_command)
-  fits = room r.0 r.1 count [] 0
+module _ {s : Channel} {h : Header} {m : Met} {w : List ℕ} (r : (h.kind ≡ 1) × Passed s h m w) (count : length s.slots ≡ slot_count) (t : ℕ) (t-is : m.target ≡ Some t) where
+  fits : (t < slot_count) × (m.held + h.length ≤ max_command)
+  fits = room r.0 r.1 count [] 0 t t-is
 
-  inside : (w' : List ℕ) → length w' ≡ length w → part_start m.target + (m.held + h.length) ≤ length w'
+  inside : (w' : List ℕ) → length w' ≡ length w → part_start t + (m.held + h.length) ≤ length w'
   inside w' e = omega (arith, e, r.1.frame.wide, fits)
 
+pub unwrap-target-requires : goal.unwrap-target-requires
+unwrap-target-requires c =
+    let e = there c.requires.0 c.requires.1 (eight c.args.self _ c.well_formed.0) [] 0 in
+    rw e
+
 pub overflow_add-size : goal.overflow_add-size
-overflow_add-size c = omega (arith, fits c.requires (eight c.args.self _ c.well_formed.0))
+overflow_add-size c =
+    let e : c.args.m.target ≡ Some c.unwrap-target.result = search rules in
+    omega (arith, fits c.requires (eight c.args.self _ c.well_formed.0) _ e)
 
 pub place-requires : goal.place-requires
-place-requires c = let (b, d) = fits c.requires (eight c.args.self _ c.well_formed.0) in (c.requires.1.frame.wide, b, d)
+place-requires c =
+    let e : c.args.m.target ≡ Some c.unwrap-target.result = search rules in
+    let (b, d) = fits c.requires (eight c.args.self _ c.well_formed.0) _ e in
+    (c.requires.1.frame.wide, b, d)
 
-pub accepted-requires : goal.accepted-requires
-accepted-requires c = c.requires.1.frame.active
+pub with_slot-next-requires : goal.with_slot-next-requires
+with_slot-next-requires c = c.requires.1.frame.active
 
 pub returns-then-is_more : goal.returns-then-is_more
 returns-then-is_more c =
-    goes_on c.requires.0 c.requires.1 (eight c.args.self _ c.well_formed.0) c.args.out.now c.args.done _ _ c.place.ensures c.command_slot-x.ensures _
-    (sym c.is_more.ensures ∙ c.if-is_more.true) c.accepted.ensures
-
-pub overflow_mul-start : goal.overflow_mul-start
-overflow_mul-start c = omega (arith, fits c.requires (eight c.args.self _ c.well_formed.0))
-
-pub overflow_add-start : goal.overflow_add-start
-overflow_add-start c = omega (arith, fits c.requires (eight c.args.self _ c.well_formed.0))
+    let e : c.args.m.target ≡ Some c.unwrap-target.result = search rules in
+    goes_on c.requires.0 c.requires.1 (eight c.args.self _ c.well_formed.0) c.args.out.now c.args.done _ e _ _ _ c.place.ensures c.command_slot.ensures c.with_slot-next.ensures
+    _ (sym c.is_more.ensures ∙ c.if-is_more.true) c.accepted.ensures
 
 pub overflow_add-stop : goal.overflow_add-stop
-overflow_add-stop c = omega (arith, fits c.requires (eight c.args.self _ c.well_formed.0))
+overflow_add-stop c =
+    let e : c.args.m.target ≡ Some c.unwrap-target.result = search rules in
+    omega (arith, fits c.requires (eight c.args.self _ c.well_formed.0) _ e)
 
 pub slice_bounds-command_number-end : goal.slice_bounds-command_number-end
-slice_bounds-command_number-end c = inside c.requires (eight c.args.self _ c.well_formed.0) c.place.new.work c.place.auto.work
+slice_bounds-command_number-end c =
+    let e : c.args.m.target ≡ Some c.unwrap-target.result = search rules in
+    inside c.requires (eight c.args.self _ c.well_formed.0) _ e c.place.new.work c.place.auto.work
 
-pub slice_bounds-command_byte-end : goal.slice_bounds-command_byte-end
-slice_bounds-command_byte-end c = inside c.requires (eight c.args.self _ c.well_formed.0) c.place.new.work c.place.auto.work
-
-pub slice_bounds-put_record-end : goal.slice_bounds-put_record-end
-slice_bounds-put_record-end c = inside c.requires (eight c.args.self _ c.well_formed.0) c.place.new.work c.place.auto.work
-
-pub returns-then-n-ne0 : goal.returns-then-n-ne0
-returns-then-n-ne0 c =
-    stops c.requires.0 c.requires.1 (eight c.args.self _ c.well_formed.0) c.args.out.now c.args.done _ _ c.place.ensures c.command_slot-x.ensures _
-    (sym c.is_more.ensures ∙ c.if-is_more.false) c.command_number-n.ensures _ c.if-n-ne0.true c.refused.ensures
+pub returns-in-Err : goal.returns-in-Err
+returns-in-Err c =
+    let e : c.args.m.target ≡ Some c.unwrap-target.result = search rules in
+    let n-is : number_of c.in-Err.rule ≡ check_of _ = ap broken_of (sym c.in-Err.is) ∙ c.command_number.ensures in
+    stops c.requires.0 c.requires.1 (eight c.args.self _ c.well_formed.0) c.args.out.now c.args.done _ e _ _ _ c.place.ensures c.command_slot.ensures c.with_slot-next.ensures _
+    (sym c.is_more.ensures ∙ c.if-is_more.false) n-is _ (number-some c.in-Err.rule) c.refused.ensures
 
 pub command_byte-third-requires : goal.command_byte-third-requires
-command_byte-third-requires c = sym c.command_number-n.ensures ∙ c.if-n-ne0.false
-
-pub accepted-requires-2 : goal.accepted-requires-2
-accepted-requires-2 c = c.requires.1.frame.active
+command_byte-third-requires c = sym c.command_number.ensures ∙ ok-zero _ c.in_default.not-Err
 
 pub returns : goal.returns
 returns c =
-    runs c.requires.0 c.requires.1 (eight c.args.self _ c.well_formed.0) c.args.out.now c.args.done _ _ c.place.ensures c.command_slot-x.ensures _
-    (sym c.is_more.ensures ∙ c.if-is_more.false) c.command_number-n.ensures _ _ _ _ _ c.if-n-ne0.false c.data_follows.ensures c.command_byte-third.ensures c.put_record-written.ensures c.accepted-2.ensures
+    let e : c.args.m.target ≡ Some c.unwrap-target.result = search rules in
+    runs c.requires.0 c.requires.1 (eight c.args.self _ c.well_formed.0) c.args.out.now c.args.done _ e _ _ _ c.place.ensures c.command_slot.ensures c.with_slot-next.ensures _
+    (sym c.is_more.ensures ∙ c.if-is_more.false) c.command_number.ensures _ _ _ _ _ (ok-zero _ c.in_default.not-Err) c.data_follows.ensures c.command_byte-third.ensures c.put_record-written.ensures c.accepted-2.ensures

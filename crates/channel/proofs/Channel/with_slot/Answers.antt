@@ -33,13 +33,13 @@ module _ (s : Channel) (i : ℕ) (x : Slot) (changed : List Slot) (before after 
 small : (s : Channel) (x : Slot) (a : ℕ) → length s.slots ≡ slot_count → CountRight s → a ≡ used_bit x → s.active + a ≤ 9
 small s x a count counts a-is = omega (arith, at-most-all s.slots, at_most_one x)
 
-pub overflow_add-next : goal.overflow_add-next
-overflow_add-next c =
+pub overflow_add-result : goal.overflow_add-result
+overflow_add-result c =
     let few : c.args.self.active + c.used_bit.result ≤ 9 = small c.args.self _ _ (eight c.args.self _ c.well_formed.0) c.requires c.used_bit.ensures in
     record { fits = omega (arith, few) }
 
-pub overflow_sub-next : goal.overflow_sub-next
-overflow_sub-next c = enough c.args.self _ _ _ _ _ _ _ c.requires c.with_slot-changed.ensures c.slot_at-before.ensures c.slot_at-after.ensures c.used_bit-2.ensures c.used_bit.ensures
+pub overflow_sub-result : goal.overflow_sub-result
+overflow_sub-result c = enough c.args.self _ _ _ _ _ _ _ c.requires c.with_slot-slots.ensures c.slot_at-before.ensures c.slot_at-after.ensures c.used_bit-2.ensures c.used_bit.ensures
 
 pub returns : goal.returns
-returns c = changes c.args.self _ _ _ _ _ _ _ c.requires c.with_slot-changed.ensures c.slot_at-before.ensures c.slot_at-after.ensures c.used_bit-2.ensures c.used_bit.ensures
+returns c = changes c.args.self _ _ _ _ _ _ _ c.requires c.with_slot-slots.ensures c.slot_at-before.ensures c.slot_at-after.ensures c.used_bit-2.ensures c.used_bit.ensures

@@ -16,20 +16,11 @@ overflow_sub-most c =
       | else-pending-ge8 w ↦ omega (arith, w.most-is, w.if-pending-ge8.false)
     ]
 
-pub returns-then-left-most : goal.returns-then-left-most
-returns-then-left-most c =
-    let p = c.args.pending in
-    let size = length_of c.args.work.now in
-    elim c.if-pending-ge8.branch [
-      | then-pending-ge8 w ↦ omega (arith, count-late p size c.args.left w.if-pending-ge8.true, w.most-is, w.payload_length-most.ensures, c.if-left-most.true)
-      | else-pending-ge8 w ↦ omega (arith, count-early p size c.args.left (omega (arith, w.if-pending-ge8.false)), w.most-is, c.if-left-most.true)
-    ]
-
 pub returns : goal.returns
 returns c =
     let p = c.args.pending in
     let size = length_of c.args.work.now in
     elim c.if-pending-ge8.branch [
-      | then-pending-ge8 w ↦ omega (arith, count-late p size c.args.left w.if-pending-ge8.true, w.most-is, w.payload_length-most.ensures, c.if-left-most.false)
-      | else-pending-ge8 w ↦ omega (arith, count-early p size c.args.left (omega (arith, w.if-pending-ge8.false)), w.most-is, c.if-left-most.false)
+      | then-pending-ge8 w ↦ omega (arith, count-late p size c.args.left w.if-pending-ge8.true, w.most-is, w.payload_length-most.ensures, c.min.ensures)
+      | else-pending-ge8 w ↦ omega (arith, count-early p size c.args.left (omega (arith, w.if-pending-ge8.false)), w.most-is, c.min.ensures)
     ]

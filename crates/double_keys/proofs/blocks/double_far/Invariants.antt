@@ -1,14 +1,13 @@
--- `double_keys::blocks::double_far` meets its contract. The loop's invariant: the search goes on from p with the entries left, and the rows
+-- `double_keys::blocks::double_far` meets its contract. The loop's invariant: the search goes on with the entries to come, and the rows
 -- are as long as they were. The measure is the number of entries left. Assumes nothing.
-use mathlib.Core.Path.{◌≡◌}
-use lib.ListN.{length}
+use Rattle.std.proofs.Common.{◌≡◌, length}
 use Rattle.keys.specs.Keys.{twice}
-use Rattle.entries.specs.Entries.{entries, contents}
+use Rattle.double_keys.specs.Entries.{keys_to_come}
 use Rattle.double_keys.proofs.blocks.double_far.Given as goal
 
-abbrev pub invariant-loop-left : goal.invariant-loop-left
-invariant-loop-left l =
-    (twice (contents l.s (entries l.s l.levels l.n l.at)) ≡ twice (contents l.s (entries l.s l.levels l.left l.p))) × (length l.starts ≡ length l.initial.starts) × (length l.stops ≡ length l.initial.stops)
+abbrev pub invariant-loop-e : goal.invariant-loop-e
+invariant-loop-e l =
+    (twice (keys_to_come l.all) ≡ twice (keys_to_come l.rest)) × (length l.starts ≡ length l.initial.starts) × (length l.stops ≡ length l.initial.stops)
 
-abbrev pub decreases-loop-left : goal.decreases-loop-left
-decreases-loop-left l = l.left
+abbrev pub decreases-loop-e : goal.decreases-loop-e
+decreases-loop-e l = l.rest.left

@@ -5,7 +5,7 @@ use Rattle.double_keys.proofs.Halves.{Between}
 use Rattle.double_keys.proofs.blocks.stands.Given as goal
 
 abbrev pub invariant-loop-low : goal.invariant-loop-low
-invariant-loop-low l = Between l.s l.starts l.stops l.row l.n l.key l.low l.high
+invariant-loop-low l = Between l.row.s.now l.row.starts.now l.row.stops.now l.order l.row.n l.key l.low l.high
 
 abbrev pub decreases-loop-low : goal.decreases-loop-low
 decreases-loop-low l = l.high - l.low

@@ -38,7 +38,7 @@ module _ (starts stops : List ℕ) (size : ℕ) where
 
 pub loop-i-init : goal.loop-i-init
 unfolding within
-loop-i-init c = (omega arith, refl)
+loop-i-init c = refl
 
 pub returns-then-stops-i : goal.returns-then-stops-i
 returns-then-stops-i c = sym (backward _ _ _ c.loop-i.i _ (omega arith) c.if-stops-i.true)
@@ -48,9 +48,9 @@ returns-then-size-stops c = sym (outside _ _ _ c.loop-i.i _ (omega arith) c.if-s
 
 pub loop-i-preserved : goal.loop-i-preserved
 loop-i-preserved c =
-    (omega arith, more _ _ _ c.loop-i.i c.loop-i.invariant.1 c.if-stops-i.false c.if-size-stops.false)
+    more _ _ _ c.loop-i.i c.loop-i.invariant c.if-stops-i.false c.if-size-stops.false
 
 pub returns : goal.returns
 returns c =
     let e : c.loop-i.i ≡ c.args.n = omega arith in
-    sym (rw e at c.loop-i.invariant.1)
+    sym (rw e at c.loop-i.invariant)

@@ -1,26 +1,24 @@
--- `double_keys::key_hash` meets its contract. The loop's invariant: the key's number is made of h and what follows the i bytes passed, and h
+-- `double_keys::key_hash` meets its contract. The loop's invariant: the key's number is made of h and what follows the bytes passed, and h
 -- is below 2^32. Assumes nothing.
-use mathlib.Core.Path.{refl, sym, ◌∙◌}
-use Prim.Native.Nat.{◌≤◌, ◌<◌}
+use Rattle.std.proofs.Common.{refl, sym, ◌∙◌, ◌≤◌, ◌<◌, length, arith}
 use native.Mathlib.Numerals.{add-one}
-use Rattle.std.proofs.Common.{arith}
-use lib.ListN.{length, drop_of_length-le}
+use lib.ListN.{drop_of_length-le}
 use lib.Seq.{drop-cons}
 use Rattle.double_keys.specs.Search.{hash_from, hash}
 use Rattle.double_keys.proofs.rows.key_hash.Goals as goal
 
-pub loop-i-init : goal.loop-i-init
+pub loop-b-init : goal.loop-b-init
 unfolding hash
-loop-i-init c = (omega arith, omega arith, refl)
+loop-b-init c = (omega arith, refl)
 
-pub loop-i-preserved : goal.loop-i-preserved
+pub loop-b-preserved : goal.loop-b-preserved
 unfolding hash_from
-loop-i-preserved c =
-    let h : c.loop-i.i < length c.args.key.now = omega arith in
-    (omega arith, omega arith, c.loop-i.invariant.2 ∙ rw (add-one, drop-cons c.args.key.now c.loop-i.i 0 h))
+loop-b-preserved c =
+    let h : c.loop-b.b-index < length c.args.key.now = omega arith in
+    (omega arith, c.loop-b.invariant.1 ∙ rw (add-one, drop-cons c.args.key.now c.loop-b.b-index 0 h))
 
 pub returns : goal.returns
 unfolding hash_from
 returns c =
-    let h : length c.args.key.now ≤ c.loop-i.i = omega arith in
-    sym (c.loop-i.invariant.2 ∙ rw (drop_of_length-le c.args.key.now h))
+    let h : length c.args.key.now ≤ c.loop-b.b-index = omega arith in
+    sym (c.loop-b.invariant.1 ∙ rw (drop_of_length-le c.args.key.now h))

@@ -1,11 +1,7 @@
 -- `double_keys::list_all` meets its contract. The loop's invariant: the first i places have their indexes.
 -- Assumes nothing.
-use Prim.Native.Nat.{◌-◌, ◌≤◌}
 use Rattle.double_keys.specs.Search.{Counts}
 use Rattle.double_keys.proofs.rows.list_all.Given as goal
 
 abbrev pub invariant-loop-i : goal.invariant-loop-i
-invariant-loop-i l = (l.i ≤ l.n) × Counts l.i l.initial.row l.row
-
-abbrev pub decreases-loop-i : goal.decreases-loop-i
-decreases-loop-i l = l.n - l.i
+invariant-loop-i l = Counts l.i l.initial.row l.row

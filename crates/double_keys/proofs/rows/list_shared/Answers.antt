@@ -92,16 +92,14 @@ module _ (counts row₀ : List ℕ) where
 
 -- the mark at index i still stands in the row
 pub bounds-counts-mark : goal.bounds-counts-mark
-bounds-counts-mark c = rw (c.loop-i.invariant.1.rest c.loop-i.i (omega arith)) (c.requires.2 c.loop-i.i c.loop-i-test.true)
+bounds-counts-mark c = rw (c.loop-i.invariant.rest c.loop-i.i (omega arith)) (c.requires.2 c.loop-i.i c.loop-i-test.true)
 
 pub loop-i-preserved : goal.loop-i-preserved
 loop-i-preserved c =
     let l = c.loop-i in
-    let e = l.invariant.1.rest l.i (omega arith) in
-    let room : l.m < length l.row = omega (arith, l.invariant.1.lists.few, l.invariant.1.lists.long) in (
-      omega arith,
-      elim c.if-counts-mark-gt1.branch [
-        | then-counts-mark-gt1 w ↦ rw (w.row-is, w.m-is) (added _ _ _ _ _ l.invariant.1 room)
-        | else-counts-mark-gt1 w ↦ rw (w.row-is, w.m-is) (passed _ _ _ _ _ l.invariant.1 (rw (← e) (omega (arith, w.if-counts-mark-gt1.false))))
-      ],
-    )
+    let e = l.invariant.rest l.i (omega arith) in
+    let room : l.m < length l.row = omega (arith, l.invariant.lists.few, l.invariant.lists.long) in
+    elim c.if-counts-mark-gt1.branch [
+      | then-counts-mark-gt1 w ↦ rw (w.row-is, w.m-is) (added _ _ _ _ _ l.invariant room)
+      | else-counts-mark-gt1 w ↦ rw (w.row-is, w.m-is) (passed _ _ _ _ _ l.invariant (rw (← e) (omega (arith, w.if-counts-mark-gt1.false))))
+    ]

@@ -3,7 +3,7 @@
 -- Assumes nothing.
 use mathlib.Core.Path.{◌≡◌}
 use mathlib.Core.List.{List}
-use Prim.Native.Nat.{ℕ, ◌-◌, ◌≤◌}
+use Prim.Native.Nat.{ℕ, ◌≤◌}
 use lib.ListN.{get_or}
 use Rattle.double_keys.specs.Search.{Lists}
 use Rattle.double_keys.proofs.rows.list_shared.Given as goal
@@ -13,7 +13,4 @@ pub record Listing (counts row₀ row : List ℕ) (i m : ℕ) : Type 0 where
   pub rest : (t : ℕ) → i ≤ t → get_or row t 0 ≡ get_or row₀ t 0
 
 abbrev pub invariant-loop-i : goal.invariant-loop-i
-invariant-loop-i l = (l.i ≤ l.n) × Listing l.counts l.initial.row l.row l.i l.m
-
-abbrev pub decreases-loop-i : goal.decreases-loop-i
-decreases-loop-i l = l.n - l.i
+invariant-loop-i l = Listing l.counts l.initial.row l.row l.i l.m

@@ -1,11 +1,19 @@
--- `hgrpc::boards::hgrpc_board_apply` meets its contract, by the check of the board, the command, and the board put back.
+-- `hgrpc::boards::hgrpc_board_apply` meets its contract, by the board of the bytes, the command, and the board put back.
 -- Assumes nothing.
-use Rattle.std.proofs.Common.{sym, ◌∙◌}
+use Rattle.std.proofs.Common.{ap, sym, ◌∙◌}
+use Rattle.board.specs.Board.{comes_to}
 use Rattle.hgrpc.proofs.BoardCalls.{apply_none, apply_done}
 use Rattle.hgrpc.proofs.boards.hgrpc_board_apply.Goals as goal
 
-pub returns-then-not-is_board : goal.returns-then-not-is_board
-returns-then-not-is_board c = apply_none _ _ (sym c.is_board.ensures ∙ c.if-not-is_board.true)
+pub returns-in_default : goal.returns-in_default
+returns-in_default c = apply_none _ _ c.read.ensures _ c.in_default.is
 
-pub returns : goal.returns
-returns c = apply_done _ _ (sym c.is_board.ensures ∙ c.if-not-is_board.false) _ _ _ c.board_of-board.ensures c.apply-applied.ensures c.put_board.ensures
+pub returns-in-Ok : goal.returns-in-Ok
+returns-in-Ok c =
+    let done = apply_done _ _ c.read.ensures _ c.in-Some.is _ _ _ c.apply-applied.ensures (rw c.unwrap_or.ensures at c.put_board.ensures) in
+    rw c.in-Ok.is at done
+
+pub returns-in-Err : goal.returns-in-Err
+returns-in-Err c =
+    let done = apply_done _ _ c.read.ensures _ c.in-Some.is _ _ _ c.apply-applied.ensures (rw c.unwrap_or.ensures at c.put_board.ensures) in
+    rw c.from.ensures (rw c.in-Err.is at done)

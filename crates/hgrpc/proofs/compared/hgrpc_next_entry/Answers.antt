@@ -9,4 +9,4 @@ use Rattle.hgrpc.proofs.compared.hgrpc_next_entry.Goals as goal
 
 pub returns : goal.returns
 unfolding next_call
-returns c = ap (λ (t : Told). next t c.next-found.result.next) c.tell-told.ensures ∙ ap {B = Next} (λ (f : Found). next (told_of f.said) f.next) c.next-found.ensures
+returns c = ap (λ (t : Told). next t c.next-found.result.next) c.put_entry.ensures ∙ ap {B = Next} (λ (f : Found). next (told_of f.said) f.next) c.next-found.ensures

@@ -1,10 +1,7 @@
--- `receive::diagnostic::put_map` ends: the measure is the walk's distance from its end. No more than eight containers are open. Assumes nothing.
-use Rattle.std.proofs.Common.{◌≤◌, length}
+-- `receive::diagnostic::put_map` ends: the measure is the walk's distance from its end. Assumes nothing.
+use Rattle.std.proofs.Common.{length}
 use Rattle.receive.specs.Nearer.{distance}
 use Rattle.receive.proofs.diagnostic.put_map.Given as goal
-
-abbrev pub invariant-loop-walk : goal.invariant-loop-walk
-invariant-loop-walk l = l.walk.depth ≤ 8
 
 abbrev pub decreases-loop-walk : goal.decreases-loop-walk
 decreases-loop-walk l = distance (length l.s) l.walk

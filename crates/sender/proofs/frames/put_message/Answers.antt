@@ -1,111 +1,126 @@
 -- `sender::frames::put_message` meets its contract: the total is compared part by part, and the frames are put one type behind the other.
 -- Assumes nothing.
-use Rattle.std.proofs.Common.{◌+◌, ◌-◌, ◌*◌, ◌≤◌, ◌<◌, true, false, ◌∙◌, length, arith}
+use Rattle.std.proofs.Common.{◌≡◌, ◌≤◌, true, false, is_some, ap, ◌∙◌, length, arith}
 use Rattle.buffer.proofs.WriteLaws.{length-write}
-use Rattle.sender.specs.Frames.{message_frames, total}
-use Rattle.sender.proofs.MessageLaws.{full-fits, type-long, as_command, as_data, command-total, data_total, message_least, message_plain, message_data, message_total, no_room, some-room, too_short, all-put, both-put}
+use Rattle.std.proofs.lemmas.Result.{err_from_is_err_and}
+use Rattle.sender.specs.declared.frames.Kind.TheVariants.{Command, Data}
+use Rattle.sender.specs.declared.frames.Frames.{Frames}
+use Rattle.sender.specs.Frames.{full_frames, message_frames, total}
+use Rattle.sender.specs.Send.{data_bytes}
+use Rattle.sender.proofs.MessageLaws.{full-fits, type-long, as_command, as_data, command-total, data_total, message_least, message_plain, message_data, message_total, no_room, some-room, given_refusal, too_short, all-put, both-put}
 use Rattle.sender.proofs.frames.put_message.Goals as goal
 
-pub returns-then-not-has_room : goal.returns-then-not-has_room
-returns-then-not-has_room c =
+pub returns-in_err-left : goal.returns-in_err-left
+returns-in_err-left c =
     let a = c.args in
-    let full = c.full_frames-full in
-    let short : length a.out.now < 8 * (full.result + 1) + length a.command.now = no_room _ _ _ _ c.has_room.ensures c.if-not-has_room.true in
-    rw c.refused.ensures
-    (too_short _ _ (omega (
-      arith,
-      short,
-      full.ensures,
-      command-total a.how a.command.now a.with_data a.data.now,
-      message_least a.how a.command.now a.with_data a.data.now,
-    )))
+    let d = is_some a.data in
+    let b = data_bytes a.data in
+    let short = no_room _ _ _ _ c.room_left.ensures c.in_err-left.ensures.ok_part in
+    let p = err_from_is_err_and c.from_residual.result c.from_residual.ensures.1 in
+    rw (p.1, p.2, given_refusal _ _ _ c.in_err-left.ensures.value) (too_short _ _ (omega (arith, short, c.full_frames-full.ensures, command-total a.how a.command.now d b, message_least a.how a.command.now d b)))
 
 -- the frames of the command have their place
-pub put_frames-end-requires : goal.put_frames-end-requires
-put_frames-end-requires c =
+pub put-requires : goal.put-requires
+put-requires c =
     let a = c.args in
     let full = c.full_frames-full in
-    let enough = some-room _ _ _ _ c.has_room.ensures c.if-not-has_room.false in
-    (rw full.ensures (full-fits a.how.size (length a.command.now)), omega (arith, type-long a.how false a.with_data full.result a.command.now, enough))
+    let enough = some-room _ _ _ _ c.room_left.ensures _ c.in_ok-left.ensures.ok_part in
+    let frames : Frames = record { how = a.how; kind = Command c.is_some-with_data.result } in
+    (rw full.ensures (full-fits a.how.size (length a.command.now)), omega (arith, type-long frames full.result a.command.now, enough.0))
 
-pub returns-then-not-with_data : goal.returns-then-not-with_data
-returns-then-not-with_data c =
+pub returns-in_default : goal.returns-in_default
+returns-in_default c =
     let a = c.args in
+    let d = is_some a.data in
+    let b = data_bytes a.data in
     let full = c.full_frames-full in
-    let enough = some-room _ _ _ _ c.has_room.ensures c.if-not-has_room.false in
-    let e = as_command a.how a.command.now a.with_data a.data.now _ full.ensures in
-    rw (message_plain a.how a.command.now a.with_data a.data.now c.if-not-with_data.true)
+    let enough = some-room _ _ _ _ c.room_left.ensures _ c.in_ok-left.ensures.ok_part in
+    let with = c.is_some-with_data.ensures in
+    let e = as_command a.how a.command.now d b _ full.ensures in
+    let plain : d ≡ false = ap is_some c.in_default.is in
+    rw (message_plain a.how a.command.now d b plain)
     (all-put _ _ _ _
-    (omega (arith, enough, full.ensures, command-total a.how a.command.now a.with_data a.data.now)) (rw e at c.put_frames-end.ensures.0 ∙ omega arith) (rw e at c.put_frames-end.ensures.1))
+    (omega (arith, enough.0, full.ensures, command-total a.how a.command.now d b)) (rw (with, e) at c.put.ensures.0 ∙ omega arith) (rw (with, e) at c.put.ensures.1))
 
-pub returns-then-not-has_room-2 : goal.returns-then-not-has_room-2
-returns-then-not-has_room-2 c =
+pub returns-in_err-ok_or : goal.returns-in_err-ok_or
+returns-in_err-ok_or c =
     let a = c.args in
+    let d = is_some a.data in
+    let b = data_bytes a.data in
     let full = c.full_frames-full in
     let data-full = c.full_frames-data_full in
-    let enough = some-room _ _ _ _ c.has_room.ensures c.if-not-has_room.false in
-    let left = length a.out.now - (8 * (full.result + 1) + length a.command.now) in
-    let short : left < 8 * (data-full.result + 1) + length a.data.now = no_room _ _ _ _ c.has_room-2.ensures c.if-not-has_room-2.true in
-    rw c.refused-then-not-has_room-2.ensures
+    let enough = some-room _ _ _ _ c.room_left.ensures _ c.in_ok-left.ensures.ok_part in
+    let short = no_room _ _ _ _ c.room_left-2.ensures c.in_err-ok_or.ensures.ok_part in
+    let p = err_from_is_err_and c.from_residual-in_err-ok_or.result c.from_residual-in_err-ok_or.ensures.1 in
+    let here : b ≡ c.in-Some.data.now = ap data_bytes c.in-Some.is in
+    let there : d ≡ true = ap is_some c.in-Some.is in
+    let counted : data-full.result ≡ full_frames a.how.size (length b) = rw here data-full.ensures in
+    rw (p.1, p.2, given_refusal _ _ _ c.in_err-ok_or.ensures.value)
     (too_short _ _ (omega (
       arith,
       short,
-      enough,
+      enough.0,
+      enough.1,
       full.ensures,
       data-full.ensures,
-      command-total a.how a.command.now a.with_data a.data.now,
-      data_total a.how a.command.now a.with_data a.data.now,
-      message_total a.how a.command.now a.with_data a.data.now c.if-not-with_data.false,
+      ap length here,
+      command-total a.how a.command.now d b,
+      data_total a.how a.command.now d b,
+      counted,
+      message_total a.how a.command.now d b there,
     )))
 
-pub put_frames-at-requires : goal.put_frames-at-requires
-put_frames-at-requires c =
+pub put-at-requires : goal.put-at-requires
+put-at-requires c =
     let a = c.args in
     let full = c.full_frames-full in
-    let enough = some-room _ _ _ _ c.has_room.ensures c.if-not-has_room.false in
-    (rw full.ensures (full-fits a.how.size (length a.command.now)), omega (arith, type-long a.how false a.with_data full.result a.command.now, enough))
+    let enough = some-room _ _ _ _ c.room_left.ensures _ c.in_ok-left.ensures.ok_part in
+    let frames : Frames = record { how = a.how; kind = Command c.is_some-with_data.result } in
+    (rw full.ensures (full-fits a.how.size (length a.command.now)), omega (arith, type-long frames full.result a.command.now, enough.0))
 
 -- so have those of the data, behind them
-pub put_frames-end-requires-2 : goal.put_frames-end-requires-2
-put_frames-end-requires-2 c =
+pub put-requires-2 : goal.put-requires-2
+put-requires-2 c =
     let a = c.args in
     let full = c.full_frames-full in
     let data-full = c.full_frames-data_full in
-    let enough = some-room _ _ _ _ c.has_room.ensures c.if-not-has_room.false in
-    let enough-left = some-room _ _ _ _ c.has_room-2.ensures c.if-not-has_room-2.false in (
-      rw data-full.ensures (full-fits a.how.size (length a.data.now)),
-      rw (c.put_frames-at.ensures.1, length-write)
-          (omega (
-            arith,
-            c.put_frames-at.ensures.0,
-            type-long a.how false a.with_data full.result a.command.now,
-            type-long a.how true a.with_data data-full.result a.data.now,
-            enough,
-            enough-left,
-          )),
+    let bytes = c.in-Some.data.now in
+    let enough = some-room _ _ _ _ c.room_left.ensures _ c.in_ok-left.ensures.ok_part in
+    let enough-left = some-room _ _ _ _ c.room_left-2.ensures _ c.in_ok-ok_or.ensures.ok_part in
+    let frames : Frames = record { how = a.how; kind = Command c.is_some-with_data.result } in
+    let data-frames : Frames = record { how = a.how; kind = Data } in (
+      rw data-full.ensures (full-fits a.how.size (length bytes)),
+      rw (c.put-at.ensures.1, length-write)
+          (omega (arith, c.put-at.ensures.0, type-long frames full.result a.command.now, type-long data-frames data-full.result bytes, enough, enough-left)),
     )
 
 pub returns : goal.returns
 returns c =
     let a = c.args in
+    let d = is_some a.data in
+    let b = data_bytes a.data in
     let full = c.full_frames-full in
     let data-full = c.full_frames-data_full in
-    let enough = some-room _ _ _ _ c.has_room.ensures c.if-not-has_room.false in
-    let enough-left = some-room _ _ _ _ c.has_room-2.ensures c.if-not-has_room-2.false in
-    let d = c.if-not-with_data.false in
-    let e = as_command a.how a.command.now a.with_data a.data.now _ full.ensures in
-    let k = as_data a.how a.command.now a.with_data a.data.now _ data-full.ensures in
-    let m = message_data a.how a.command.now a.with_data a.data.now d in
-    let fits : total (message_frames a.how a.command.now a.with_data a.data.now) ≤ length a.out.now = omega (
+    let enough = some-room _ _ _ _ c.room_left.ensures _ c.in_ok-left.ensures.ok_part in
+    let enough-left = some-room _ _ _ _ c.room_left-2.ensures _ c.in_ok-ok_or.ensures.ok_part in
+    let here : b ≡ c.in-Some.data.now = ap data_bytes c.in-Some.is in
+    let there : d ≡ true = ap is_some c.in-Some.is in
+    let counted : data-full.result ≡ full_frames a.how.size (length b) = rw here data-full.ensures in
+    let with = c.is_some-with_data.ensures in
+    let e = as_command a.how a.command.now d b _ full.ensures in
+    let k = as_data a.how a.command.now d b _ counted in
+    let m = message_data a.how a.command.now d b there in
+    let fits : total (message_frames a.how a.command.now d b) ≤ length a.out.now = omega (
       arith,
       enough,
       enough-left,
       full.ensures,
-      data-full.ensures,
-      command-total a.how a.command.now a.with_data a.data.now,
-      data_total a.how a.command.now a.with_data a.data.now,
-      message_total a.how a.command.now a.with_data a.data.now d,
+      counted,
+      ap length here,
+      command-total a.how a.command.now d b,
+      data_total a.how a.command.now d b,
+      message_total a.how a.command.now d b there,
     ) in
     rw m
-    (both-put _ _ _ _ _ _ _ (rw m at fits) (rw e at c.put_frames-at.ensures.0) (rw e at c.put_frames-at.ensures.1) (rw k at c.put_frames-end-2.ensures.0)
-    (rw k at c.put_frames-end-2.ensures.1))
+    (both-put _ _ _ _ _ _ _ (rw m at fits) (rw (with, e) at c.put-at.ensures.0) (rw (with, e) at c.put-at.ensures.1) (rw (← here, k) at c.put-2.ensures.0)
+    (rw (← here, k) at c.put-2.ensures.1))

@@ -37,4 +37,4 @@ pub returns-then-k-eq0 : goal.returns-then-k-eq0
 returns-then-k-eq0 c = high c.args.item.now c.args.d c.args.k c.if-k-eq0.true (omega arith)
 
 pub returns-else-k-eq0 : goal.returns-else-k-eq0
-returns-else-k-eq0 c = low c.args.item.now c.args.d c.args.k c.with_low.result (omega arith) (omega arith) (omega arith) c.with_low.ensures
+returns-else-k-eq0 c = low c.args.item.now c.args.d c.args.k _ (omega arith) (omega arith) (omega arith) refl

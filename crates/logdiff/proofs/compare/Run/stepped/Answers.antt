@@ -1,11 +1,9 @@
--- `logdiff::compare::Run::stepped`: the run behind the step is sound, and is what the step makes of it. Assumes nothing.
-use Rattle.std.proofs.Common.{◌≡◌, length, refl, arith}
-use Rattle.logdiff.specs.Turns.{room_length}
+-- `logdiff::compare::Run::stepped`: the run is what the step makes of it. Assumes nothing.
+use Rattle.std.proofs.Common.{refl}
 use Rattle.logdiff.proofs.Turning.{next}
 use Rattle.logdiff.proofs.compare.Run.stepped.Goals as goal
 
 pub returns : goal.returns
-returns c =
-    let long : length c.args.out.now ≡ room_length = omega arith in
-    next _ _ _ _ _ _ _ _ _ _ _ _ c.requires long c.at_hand.ensures c.is_last.ensures c.at_hand-2.ensures c.is_last-2.ensures c.step-step.ensures
-    c.taken.ensures c.taken-2.ensures refl c.put_said.ensures c.with_room.ensures
+returns g c =
+    next _ _ _ _ _ _ _ _ _ _ c.piece.ensures.0 c.piece.ensures.1 c.piece-2.ensures.0 c.piece-2.ensures.1 c.step-step.ensures refl refl
+    c.taken.ensures c.taken-2.ensures refl c.in_ok-make_room.ensures c.put_said.ensures

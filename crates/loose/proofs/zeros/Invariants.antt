@@ -1,9 +1,0 @@
--- No more bytes than asked for are passed.
-use Rattle.std.proofs.Common.{◌-◌, ◌≤◌}
-use Rattle.loose.proofs.zeros.Given as goal
-
-abbrev pub invariant-loop-i : goal.invariant-loop-i
-invariant-loop-i l = l.i ≤ l.k
-
-abbrev pub decreases-loop-i : goal.decreases-loop-i
-decreases-loop-i l = l.k - l.i
