@@ -8,7 +8,7 @@ use Rattle.board.specs.declared.Board.{Board}
 use Rattle.board.specs.declared.Change.{Change}
 use Rattle.board.specs.declared.Change.TheVariants.{Switch, Label, AllOff}
 use Rattle.board.specs.declared.Refusal.{Refusal}
-use Rattle.board.specs.Commands.{coil_count, longest_label, refusal_number, change_of}
+use Rattle.board.specs.Commands.{coil_count, longest_label, refusal_number, change_number, change_of}
 
 -- ---- the first board: all off with empty labels
 
@@ -56,9 +56,12 @@ module _ (s : List ℕ) where
   changed AllOff b = all_off b
 
   -- a refused command leaves the whole board as it was
+  abbrev pub after_change : Result Change Refusal → Board → Board
+  after_change (Ok x) b = changed x b
+  after_change (Err r) b = b
+
   abbrev pub applied_by : Result Change Refusal → Board → Applied
-  applied_by (Ok x) b = record { number = 0; board = changed x b }
-  applied_by (Err r) b = record { number = refusal_number r; board = b }
+  applied_by x b = record { number = change_number x; board = after_change x b }
 
   unfoldable pub applied : Board → Applied
   applied b = applied_by (change_of s) b

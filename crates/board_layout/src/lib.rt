@@ -1,11 +1,11 @@
 // The board in bytes: whether bytes are a board's, the board of bytes, and the bytes of a board.
 #![tactic(auto)]
 
-ghost use Rattle.std.specs.Prelude.{◌≡◌, suc, refl};
+ghost use Rattle.std.specs.Prelude.{◌≡◌, suc, refl, IfSome};
 ghost use Rattle.std.proofs.Common.{rules};
 ghost use Rattle.fields.specs.Fields.{read};
 ghost use Rattle.fields.proofs.Local.{choice_local, bytes_local, both_local, many_local, standing_local};
-ghost use Rattle.board_layout.specs.BoardBytes.{coil, board, decode, is_board, board_from, board_into};
+ghost use Rattle.board_layout.specs.BoardBytes.{coil, board, encode, decode, is_board, board_from, board_into};
 
 use board::{Board, Coil};
 use fields::Field;
@@ -114,12 +114,16 @@ pub fn board_of(b: &[u8]) -> Board
     fields::value_from::<BoardField, BOARD>(Board::first(), b)
 }
 
-// The board of its bytes, if they are a board's.
-#[tactic(auto, unfolding(crate::specs::BoardBytes::decode))]
+// The board of its bytes, if they are a board's: `bytes` says that it has no others.
+// Stays two calls, one that judges and one that reads: of `fields::read` the compiler makes steps for each coil, which take twice as long.
 pub fn read(b: &[u8]) -> Option<Board>
-    ensures { read result ≡ decode b.now }
+    ensures value { read result ≡ decode b.now }
+    ensures bytes { IfSome result (λ x. b.now ≡ encode x) }
 {
-    fields::read::<BoardField, BOARD>(b)
+    if !is_board(b) {
+        return None;
+    }
+    Some(board_of(b))
 }
 
 // Puts a board into its bytes; where there are more or fewer of them, they stay as they are.

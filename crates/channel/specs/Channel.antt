@@ -1,5 +1,5 @@
 -- Rules 2 and 3, and the receiver as a machine: feed and finish are those of `Session`.
-use Rattle.std.specs.Prelude.{ℕ, ◌+◌, Bool, cond, ◌&&◌, ◌||◌, List, length, leb, ltb, eqb, Result, Ok, Err}
+use Rattle.std.specs.Prelude.{ℕ, ◌+◌, Bool, cond, not, ◌&&◌, ◌||◌, List, length, leb, ltb, eqb, Result, Ok, Err}
 use Rattle.channel.specs.declared.Channel.{Channel}
 use Rattle.channel.specs.declared.Fed.{Fed}
 use Rattle.channel.specs.declared.Refusal.{Refusal}
@@ -53,6 +53,10 @@ abbrev pub refusal_of : Refusal → ℕ
 refusal_of NotInShape = 3
 refusal_of (Dead n) = n
 refusal_of NotFinishable = 4
+
+-- why finish refuses: out of shape, then dead with its number, then the request neither waits nor runs
+abbrev pub refusal_in : Channel → Refusal
+refusal_in s = cond (not (plain_shape s)) NotInShape (cond (not (eqb s.dead 0)) (Dead s.dead) NotFinishable)
 
 -- finish's answer, on a state: a refusal leaves it
 abbrev pub finished : Channel → Result Channel Refusal → Reply Channel

@@ -3,13 +3,13 @@
 
 mod feed;
 
-ghost use Rattle.std.specs.Prelude.{◌≡◌, ◌+◌, ◌≤◌, ◌<◌, length, take, drop};
+ghost use Rattle.std.specs.Prelude.{◌≡◌, ◌+◌, ◌≤◌, ◌<◌, length, take, drop, IfErr};
 ghost use Rattle.buffer.specs.Bytes.{write};
 ghost use Rattle.frame.specs.Limits.{max_command, slot_count, work_area, part_start};
 ghost use Rattle.rules.specs.Rules.{check_of, command_byte};
 ghost use Rattle.channel.specs.Receiver.{fresh_state, with_slot};
 ghost use Rattle.rules.specs.Stages.{number_of};
-ghost use Rattle.channel.specs.Channel.{dead_fits, plain_shape, refusal_of, finish_of, finished, fed_with};
+ghost use Rattle.channel.specs.Channel.{dead_fits, plain_shape, refusal_of, refusal_in, finish_of, finished, fed_with};
 ghost use Rattle.channel.specs.Steps.{met_of, CountRight, answer_with, refused_with, accepted_with, judged_into, HasFrame, Passed};
 
 use frame::Header;
@@ -112,7 +112,8 @@ impl Channel {
     // The owner's finish of a request: the state after it, in which the slot of a request that ran is free, and one that waited for data
     // drains. Or 3, the dead number or 4, and the state that was handed in stays the channel's.
     pub fn finish(self, id: u16) -> Result<Channel, Refusal>
-        ensures { finished self result ≡ finish_of self id }
+        ensures answer { finished self result ≡ finish_of self id }
+        ensures why { IfErr result (λ r. r ≡ refusal_in self) }
     {
         if !self.is_plain() {
             return Err(Refusal::NotInShape);

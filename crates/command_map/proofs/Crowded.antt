@@ -23,7 +23,7 @@ use Rattle.double_keys.proofs.KeyLists.{twice-pair}
 use Rattle.command_map.specs.declared.Command.{Command}
 use Rattle.command_map.specs.declared.Judged.{Judged}
 use Rattle.command_map.specs.CommandMap.{name-key, args_key, redirect_key, is_name, is_args, is_map, allowed}
-use Rattle.command_map.specs.Walk.{judged, command_of}
+use Rattle.command_map.specs.Walk.{none_judged, judged, command_of}
 use Rattle.command_map.proofs.Judgement.{all-allowed}
 
 abbrev key_numbered : ℕ → List ℕ
@@ -110,7 +110,7 @@ module _ (s : List ℕ) where
   -- a command whose judgement is of all its entries: where they are more than three a key stands twice
   pub too_many : (n at p : ℕ) (j : Judged) → repeat n (pair s (value s 7)) at ≡ Some p → judged s (entries s 7 n at) ≡ Some j → 3 < n → twice (contents s (entries s 7 n at)) ≡ true
   too_many n at p j h a l =
-      let c = contents-named (entries s 7 n at) (all-allowed s (entries s 7 n at) j a) in
+      let c = contents-named (entries s 7 n at) (sym (all-allowed s (Some none_judged) (entries s 7 n at)) ∙ rw a) in
       crowded (contents s (entries s 7 n at)) c.0 (omega (arith, c.1, entries-long 7 n at p h))
 
 -- what makes a command is a judgement

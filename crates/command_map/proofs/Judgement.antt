@@ -1,11 +1,10 @@
 -- The walk's judgement of all entries, part by part: it says of the list of entries what the definition of the command map says.
 -- Assumes nothing.
-use Rattle.std.specs.Prelude.{Option, None, Some, Ok, Err}
+use Rattle.std.specs.Prelude.{Option, None, Some, is_some, Ok, Err}
 use mathlib.Core.Path.{◌≡◌, refl, sym, ap, ◌∙◌}
 use mathlib.Core.Bool.{Bool, true, false, cond, ◌&&◌, ◌||◌, false≢true, or-true, or-false, or_assoc}
 use mathlib.Core.List.{List, [], ◌∷◌, foldl}
 use Prim.Native.Nat.{ℕ}
-use native.Mathlib.Omega.{arith}
 use lib.ListN.{length}
 use borrow.Author.Tests.{eq-eqb}
 use Rattle.std.specs.Option.{MatchOption, option_or}
@@ -185,13 +184,14 @@ module _ (s : List ℕ) where
       by true ok n rest = let t = takes j e ok in rw t.1 (rest t.0 n)
       by false ok n rest = rw (refuses j e ok) (none-stays es)
 
-  -- where there is a judgement every entry is allowed
-  pub all-allowed : (es : List Entry) (j : Judged) → judged s es ≡ Some j → all (allowed s) es ≡ true
-  all-allowed es j h = by (all (allowed s) es) refl
+  -- there is a judgement exactly where there was one before and every entry is allowed
+  pub all-allowed : (o : Option Judged) (es : List Entry) → is_some (foldl (judge_next s) o es) ≡ (is_some o && all (allowed s) es)
+  all-allowed None es = rw (none-stays es)
+  all-allowed (Some j) es = by (all (allowed s) es) refl
     where
-      by : (b : Bool) → all (allowed s) es ≡ b → all (allowed s) es ≡ true
-      by true e = e
-      by false e = absurd (let z : ◌≡◌ {A = Option Judged} None (Some j) = sym (judges-none none_judged es e) ∙ h in (let y : ◌≡◌ {A = ℕ} 0 1 = cc in omega arith))
+      by : (b : Bool) → all (allowed s) es ≡ b → is_some (foldl (judge_next s) (Some j) es) ≡ all (allowed s) es
+      by true e = rw (e, (judges j es e).1)
+      by false e = rw (e, judges-none j es e)
 
   -- the command map, by the judgement and by whether a key stands twice in it
   double_too : (t d : Bool) (c : Command) → ◌≡◌ {A = Checked} (cond (t || d) (Err DoubleKey) (Ok c)) (also_double t (cond d (Err DoubleKey) (Ok c)))

@@ -167,7 +167,7 @@ fn read_fields(s: &[u8], n: u64, at: usize, starts: &mut [u16], stops: &mut [u16
                 ensures { result ≡ judge s.entry.now j e }
             { j.judge(s, e) },
         );
-        kept = double_keys::keep(starts, stops, kept, e);
+        kept = double_keys::keep(starts, stops, kept, Some(e));
         p = e.next();
     }
     Some(Fields {

@@ -57,13 +57,21 @@ module _ (room : List ℕ) (held taken : ℕ) (h : held ≤ length room) (t : ta
       let l : held - taken ≤ length (drop taken room) = omega (arith, length-drop taken room) in
       rw e (take-paste room 0 (drop taken room) (held - taken) (omega arith) l)
 
-  pub rest : take (held - taken) (copy_within room taken held 0) ≡ drop taken (take held room)
+  rest : take (held - taken) (copy_within room taken held 0) ≡ drop taken (take held room)
   rest =
       let k : taken + (held - taken) ≡ held = omega arith in
       front (held - taken) (omega arith) ∙ take_of_drop (held - taken) taken room ∙ rw k
 
+  module _ (room' : List ℕ) where
+    pub moved : room' ≡ copy_within room taken held 0 → take (held - taken) room' ≡ drop taken (take held room)
+    moved m = rw m rest
+
+    -- where no record is whole the rest stands there already
+    pub unmoved : taken ≡ 0 → room' ≡ room → take (held - taken) room' ≡ drop taken (take held room)
+    unmoved z m = let k : held - taken ≡ held = omega arith in rw (m, k, z)
+
   module _ (out : List ℕ) (written place : ℕ) (d : Rewritten (take held room) (record { taken = taken; written = written }) out) (room' : List ℕ)
-      (m : room' ≡ copy_within room taken held 0) where
+      (m : take (held - taken) room' ≡ drop taken (take held room)) where
     pub turned : (r : Run) → r.held ≡ held - taken → r.place ≡ (place + taken) % 2 ^ 64 → Turned (take held room) place r room'
     unfolding at_once
-    turned r e p = record { held = rw (e, m) (rest ∙ rw d.taken); behind = p ∙ rw d.taken }
+    turned r e p = record { held = rw e (m ∙ rw d.taken); behind = p ∙ rw d.taken }

@@ -64,7 +64,8 @@ impl Run {
         }
     }
 
-    // Converts the whole records of the bytes held and of those that came, writes them, and moves the rest to the front.
+    // Converts the whole records of the bytes held and of those that came, writes them, and moves the rest to the front. Where none is whole,
+    // the rest stands there already, and no byte is moved: else a log in small pieces would cost the square of a record's length.
     fn convert(
         self,
         came: usize,
@@ -80,7 +81,9 @@ impl Run {
         output
             .write_all(&out[..front.written])
             .map_err(|_| Fault::Unwritten)?;
-        room.copy_within(front.taken..held, 0);
+        if 0 < front.taken {
+            room.copy_within(front.taken..held, 0);
+        }
         Ok(Run {
             held: held - front.taken,
             place: self.place.wrapping_add(front.taken as u64),

@@ -21,8 +21,11 @@ impl From<Unread> for Fault {
 pub(crate) fn say_fault(errors: &impl Print, name: &[u8], fault: Fault) {
     match fault {
         Fault::Unread(error) => files::say_unread(errors, name, error),
+        // Stays some writes, as the lines of files.
         Fault::Broken(place) => {
-            let _ = println!(errors; "broken at byte {place}");
+            files::write(errors, b"broken at byte ");
+            files::write_decimal(errors, place);
+            files::write(errors, b"\n");
         }
         Fault::Unwritten => {
             let _ = println!(errors; "the output cannot be written");

@@ -23,7 +23,7 @@ use Rattle.entries.specs.declared.Entry.{Entry}
 use Rattle.entries.specs.declared.Entry.TheVariants.{Keyed, Other}
 use Rattle.entries.specs.Entries.{next_of, again, keyed, other, entry_of, entry_at, entries, contents}
 use Rattle.entries.proofs.Bools.{and_left, and_right}
-use Rattle.entries.proofs.Walk.{goes, twice-more}
+use Rattle.entries.proofs.Walk.{ends, goes, twice-more}
 use Rattle.entries.proofs.Shift.{entries_shift, contents_shift}
 use Rattle.double_keys.specs.declared.walk.Entries.{Entries}
 use Rattle.double_keys.specs.declared.blocks.Block.{Block}
@@ -155,12 +155,12 @@ module _ (s starts stops : List ℕ) (k : ℕ) (h : Places s starts stops k) whe
       leaving_one a b (ltb-true k (length starts) (and_left _ (ltb k (length stops)) two)) (ltb-true k (length stops) (and_right (ltb k (length starts)) _ two)) i.0 i.1
   by-room a b q i false e = leaving_full
 
-  leaving_of : (e : Entry) → Lies s e → Leaving s starts stops (kept_starts starts stops k e) (kept_stops starts stops k e) (kept_count starts stops k e)
+  leaving_of : (e : Entry) → Lies s e → Leaving s starts stops (kept_starts starts stops k (Some e)) (kept_stops starts stops k (Some e)) (kept_count starts stops k (Some e))
   unfolding kept_count kept_starts kept_stops
   leaving_of (Keyed a b q) i = by-room a b q i (room_for starts stops k a b) refl
   leaving_of (Other q) i = leaving_none
 
-  keeps_leaving : {starts' stops' : List ℕ} {e : Entry} {r : ℕ} → Lies s e → Keeps starts stops starts' stops' k e r → Leaving s starts stops starts' stops' r
+  keeps_leaving : {starts' stops' : List ℕ} {e : Entry} {r : ℕ} → Lies s e → Keeps starts stops starts' stops' k (Some e) r → Leaving s starts stops starts' stops' r
   keeps_leaving {e} i g = rw (g.count, g.starts_after, g.stops_after) (leaving_of e i)
 
 -- what a call of the iterator answers and leaves
@@ -210,8 +210,19 @@ module _ {all : Entries} {starts₀ stops₀ starts stops : List ℕ} {b : Block
     fewer = w.fewer;
   }
 
+  -- or where no entry is to come: y is what the iterator then leaves
+  pub taken-all : (y : Entries) → Given b.rest None y → Blocked all starts₀ starts stops (record { count = b.count; rest = y })
+  unfolding contents
+  taken-all y g = record {
+    long = w.walk.long;
+    in_s = w.in_s;
+    same = taken.same ∙ rw (g.0.0, ends y.s.now y.levels y.left y.at g.0.1);
+    same_s = g.1 ∙ w.same_s;
+    fewer = omega (arith, g.0.1);
+  }
+
   -- by what the iterator gives and `keep` answers
-  module _ (e : Entry) (y : Entries) {r : ℕ} {starts' stops' : List ℕ} (g : Given b.rest (Some e) y) (keeps : Keeps starts stops starts' stops' b.count e r) where
+  module _ (e : Entry) (y : Entries) {r : ℕ} {starts' stops' : List ℕ} (g : Given b.rest (Some e) y) (keeps : Keeps starts stops starts' stops' b.count (Some e) r) where
     read : Some e ≡ entry_at all.s.now all.levels b.rest.at
     read = rw (w.same_s, w.same_levels) at g.0.1
 

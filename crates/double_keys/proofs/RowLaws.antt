@@ -23,7 +23,7 @@ use Rattle.double_keys.specs.Row.{kept, within, sound, row_double, room_for, kep
 use Rattle.double_keys.specs.declared.rows.Row.{Row}
 use Rattle.double_keys.specs.Rows.{keys_in, IsRow}
 use Rattle.double_keys.specs.Search.{Places}
-use Rattle.entries.proofs.Folds.{not-keyed}
+use Rattle.entries.proofs.Folds.{not-read}
 use Rattle.entries.proofs.Bools.{and_left, and_right}
 use Rattle.entries.proofs.Walk.{entry-pair, ends, breaks, goes, contents-more}
 
@@ -44,9 +44,9 @@ module _ (s : List ℕ) where
       rw (add-one, take-suc-set starts k a h, take-suc-set stops k b j)
       (snoc (take k starts) (take k stops) a b (rw (length-take-le k starts (le_of_lt h), length-take-le k stops (le_of_lt j))))
 
--- What `keep` answers and leaves, in each of its cases: no room, room, and a key that is no byte string.
-module _ (starts stops : List ℕ) (k : ℕ) (e : Entry) where
-  module _ (a b q : ℕ) (i : e ≡ Keyed a b q) where
+-- What `keep` answers and leaves, in each of its cases: no room, room, and no key that is a byte string.
+module _ (starts stops : List ℕ) (k : ℕ) (e : Option Entry) where
+  module _ (a b q : ℕ) (i : e ≡ Some (Keyed a b q)) where
     pub no_room : room_for starts stops k a b ≡ false → Keeps starts stops starts stops k e (length starts + 1)
     unfolding kept_count kept_starts kept_stops
     no_room h = record { count = rw (i, h); starts_after = rw (i, h); stops_after = rw (i, h) }
@@ -55,9 +55,9 @@ module _ (starts stops : List ℕ) (k : ℕ) (e : Entry) where
     unfolding kept_count kept_starts kept_stops
     room h = record { count = rw (i, h); starts_after = rw (i, h); stops_after = rw (i, h) }
 
-  pub no_key : ((start stop next : ℕ) → e ≡ Keyed start stop next → ⊥) → Keeps starts stops starts stops k e k
+  pub no_key : ((start stop next : ℕ) → e ≡ Some (Keyed start stop next) → ⊥) → Keeps starts stops starts stops k e k
   unfolding kept_count kept_starts kept_stops
-  no_key h = record { count = rw (not-keyed e h); starts_after = rw (not-keyed e h); stops_after = rw (not-keyed e h) }
+  no_key h = record { count = rw (not-read e h); starts_after = rw (not-read e h); stops_after = rw (not-read e h) }
 
 -- What a walk needs of it: rows as long as before and, if r is not past their end, the k keys of before and then the entry's.
 record More (starts stops starts' stops' : List ℕ) (k : ℕ) (e : Entry) (r : ℕ) : Type 0 where
@@ -99,12 +99,12 @@ module _ (starts stops : List ℕ) (k : ℕ) where
       more-one a b q (ltb-true k (length starts) (and_left _ (ltb k (length stops)) two)) (ltb-true k (length stops) (and_right (ltb k (length starts)) _ two))
   by-room a b q false h = more-full (Keyed a b q)
 
-  more_of : (e : Entry) → More starts stops (kept_starts starts stops k e) (kept_stops starts stops k e) k e (kept_count starts stops k e)
+  more_of : (e : Entry) → More starts stops (kept_starts starts stops k (Some e)) (kept_stops starts stops k (Some e)) k e (kept_count starts stops k (Some e))
   unfolding kept_count kept_starts kept_stops contents
   more_of (Keyed a b q) = by-room a b q (room_for starts stops k a b) refl
   more_of (Other q) = more-none (Other q) (λ s. refl)
 
-  keeps-more : (starts' stops' : List ℕ) (e : Entry) (r : ℕ) → Keeps starts stops starts' stops' k e r → More starts stops starts' stops' k e r
+  keeps-more : (starts' stops' : List ℕ) (e : Entry) (r : ℕ) → Keeps starts stops starts' stops' k (Some e) r → More starts stops starts' stops' k e r
   keeps-more starts' stops' e r h = rw (h.count, h.starts_after, h.stops_after) (more_of e)
 
 -- A walk over the n entries from `at` on with a row: `left` of them are to come, from p on, and if k is not past the row's end, the keys
@@ -146,7 +146,7 @@ module _ {s : List ℕ} {levels n at : ℕ} {starts₀ stops₀ starts stops : L
   broken some read = over None (breaks s levels left p some read) (repeats.stops _ n at left p w.to_come some (entry-pair s levels p ∙ rw (← read)))
 
   module _ {e : Entry} (some : 0 < left) (read : Some e ≡ entry_at s levels p) where
-    pub turn : {r : ℕ} {starts' stops' : List ℕ} → Keeps starts stops starts' stops' k e r → Turn s levels n at starts₀ stops₀ starts' stops' p left e (next_of e) r
+    pub turn : {r : ℕ} {starts' stops' : List ℕ} → Keeps starts stops starts' stops' k (Some e) r → Turn s levels n at starts₀ stops₀ starts' stops' p left e (next_of e) r
     turn {r} {starts'} {stops'} g =
         let f = goes s levels left p e some read in
         let m = keeps-more starts stops k starts' stops' e r g in

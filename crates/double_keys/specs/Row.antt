@@ -3,7 +3,7 @@
 use Rattle.std.specs.Prelude.{ℕ, Option, None, Some, zero, suc, ◌+◌, ◌≤◌, ◌≡◌, List, Bool, true, false, cond, ◌&&◌, ltb, leb, length, take, set, get_or}
 use Rattle.keys.specs.Keys.{keys_at, twice}
 use Rattle.entries.specs.declared.Entry.{Entry}
-use Rattle.entries.specs.Entries.{all, if_keyed, is_keyed, contents}
+use Rattle.entries.specs.Entries.{all, if_read, is_keyed, contents}
 
 -- the first k keys of a row
 unfoldable pub kept : List ℕ → List ℕ → List ℕ → ℕ → List (List ℕ)
@@ -26,19 +26,20 @@ row_double s es starts stops k = cond (sound s starts stops k) (twice (kept s st
 abbrev pub room_for : List ℕ → List ℕ → ℕ → ℕ → ℕ → Bool
 room_for starts stops k start stop = ltb k (length starts) && ltb k (length stops) && leb start 65535 && leb stop 65535
 
--- how many places the row has after an entry: one more, or a number past its end; as many as before if the key is no byte string
-unfoldable pub kept_count : List ℕ → List ℕ → ℕ → Entry → ℕ
-kept_count starts stops k e = if_keyed e (λ start stop next. cond (room_for starts stops k start stop) (k + 1) (length starts + 1)) k
+-- how many places the row has after what was read: one more, or a number past its end; as many as before if it is no entry, or its key is no
+-- byte string
+unfoldable pub kept_count : List ℕ → List ℕ → ℕ → Option Entry → ℕ
+kept_count starts stops k e = if_read e (λ start stop next. cond (room_for starts stops k start stop) (k + 1) (length starts + 1)) k
 
--- the row's starts and its stops after an entry
-unfoldable pub kept_starts : List ℕ → List ℕ → ℕ → Entry → List ℕ
-kept_starts starts stops k e = if_keyed e (λ start stop next. cond (room_for starts stops k start stop) (set starts k start) starts) starts
+-- the row's starts and its stops after what was read
+unfoldable pub kept_starts : List ℕ → List ℕ → ℕ → Option Entry → List ℕ
+kept_starts starts stops k e = if_read e (λ start stop next. cond (room_for starts stops k start stop) (set starts k start) starts) starts
 
-unfoldable pub kept_stops : List ℕ → List ℕ → ℕ → Entry → List ℕ
-kept_stops starts stops k e = if_keyed e (λ start stop next. cond (room_for starts stops k start stop) (set stops k stop) stops) stops
+unfoldable pub kept_stops : List ℕ → List ℕ → ℕ → Option Entry → List ℕ
+kept_stops starts stops k e = if_read e (λ start stop next. cond (room_for starts stops k start stop) (set stops k stop) stops) stops
 
 -- what `keep` answers, r, and leaves
-pub record Keeps (starts stops starts' stops' : List ℕ) (k : ℕ) (e : Entry) (r : ℕ) : Type 0 where
+pub record Keeps (starts stops starts' stops' : List ℕ) (k : ℕ) (e : Option Entry) (r : ℕ) : Type 0 where
   pub count : r ≡ kept_count starts stops k e
   pub starts_after : starts' ≡ kept_starts starts stops k e
   pub stops_after : stops' ≡ kept_stops starts stops k e

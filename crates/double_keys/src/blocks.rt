@@ -43,13 +43,13 @@ fn take_block<'a>(all: Entries<'a>, starts: &mut [u16], stops: &mut [u16]) -> Bl
     };
     let mut rest = all;
     while let Some(e) = rest.next() {
-        let count = keep(starts, stops, b.count, e);
+        let count = keep(starts, stops, b.count, Some(e));
         if starts.len() < count {
-            break;
+            return b;
         }
         b = Block { count, rest };
     }
-    b
+    Block { rest, ..b }
 }
 
 // Whether a key stands among those of a row, which stand in order: it is looked for by halves.

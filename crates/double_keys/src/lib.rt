@@ -26,12 +26,13 @@ pub enum Keys {
 }
 
 // Puts the place of an entry's key into a row that has k, and answers how many it then has: past the row's end where it has no room, or
-// where the place is past 65,535.
+// where the place is past 65,535; k where what was read is no entry, or its key is no byte string.
 // Stays two rows and a count, and a number where there is no room: its promise, `Keeps`, speaks of rows of any two lengths and of that number.
-pub fn keep(starts: &mut [u16], stops: &mut [u16], k: usize, e: Entry) -> usize
+#[tactic(auto, unfolding(crate::specs::Row::kept_count, crate::specs::Row::kept_starts, crate::specs::Row::kept_stops))]
+pub fn keep(starts: &mut [u16], stops: &mut [u16], k: usize, e: Option<Entry>) -> usize
     ensures { Keeps starts.old stops.old starts.new stops.new k e result }
 {
-    let Entry::Keyed { start, stop, .. } = e else {
+    let Some(Entry::Keyed { start, stop, .. }) = e else {
         return k;
     };
     let full = starts.len() + 1;
@@ -86,7 +87,7 @@ fn keep_keys(all: Entries, starts: &mut [u16], stops: &mut [u16]) -> Option<usiz
         if !e.is_keyed() {
             return None;
         }
-        k = keep(starts, stops, k, e);
+        k = keep(starts, stops, k, Some(e));
     }
     Some(k)
 }

@@ -5,7 +5,8 @@ ghost use Rattle.double_keys.specs.Walk.{Gives};
 
 use entries::Entry;
 
-// At most `left` entries of s from a position on, their values of at most `levels` levels: up to the first that is none.
+// At most `left` entries of s from a position on, their values of at most `levels` levels: up to the first that is none, which is not read
+// again.
 #[derive(Clone, Copy)]
 pub(crate) struct Entries<'a> {
     pub(crate) s: &'a [u8],
@@ -23,6 +24,7 @@ impl<'a> Iterator for Entries<'a> {
 
     fn next(&mut self) -> Option<Entry> {
         let left = self.left.checked_sub(1)?;
+        self.left = 0;
         let e = entries::read_entry(self.s, self.levels, self.at)?;
         self.left = left;
         self.at = e.next();

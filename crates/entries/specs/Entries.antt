@@ -22,6 +22,11 @@ abbrev pub if_keyed : {A : Type 0} → Entry → (ℕ → ℕ → ℕ → A) →
 if_keyed (Keyed start stop next) f d = f start stop next
 if_keyed (Other next) f d = d
 
+-- the same of what was read; where it is no entry, it gives d too
+abbrev pub if_read : {A : Type 0} → Option Entry → (ℕ → ℕ → ℕ → A) → A → A
+if_read None f d = d
+if_read (Some e) f d = if_keyed e f d
+
 abbrev pub is_keyed : Entry → Bool
 is_keyed e = if_keyed e (λ start stop next. true) false
 

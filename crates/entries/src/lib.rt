@@ -1,7 +1,8 @@
 // The entries of a map: reading one, and finding a key.
 #![tactic(auto)]
 
-ghost use Rattle.std.specs.Prelude.{◌≡◌};
+ghost use Rattle.std.specs.Prelude.{◌≡◌, false};
+ghost use Rattle.std.specs.Option.{option_map, option_map_or};
 ghost use Rattle.entries.specs.Entries.{next_of, is_keyed, entry_at, entries, has_key, find};
 
 use cbor::Item;
@@ -59,6 +60,30 @@ impl Entry {
             Entry::Keyed { start, stop, .. } => keys::same_key(key, keys::part(s, start, stop)),
             Entry::Other(_) => false,
         }
+    }
+}
+
+// The position after what was read, if it is an entry.
+pub fn next_of(e: Option<Entry>) -> Option<usize>
+    ensures { result ≡ option_map next_of e }
+{
+    Some(e?.next())
+}
+
+// Whether what was read is an entry whose key is a byte string.
+pub fn is_keyed(e: Option<Entry>) -> bool
+    ensures { result ≡ option_map_or is_keyed e false }
+{
+    matches!(e, Some(Entry::Keyed { .. }))
+}
+
+// Whether what was read is an entry whose key has this content.
+pub fn has_key(s: &[u8], key: &[u8], e: Option<Entry>) -> bool
+    ensures { result ≡ option_map_or (has_key s.now key.now) e false }
+{
+    match e {
+        Some(e) => e.has_key(s, key),
+        None => false,
     }
 }
 

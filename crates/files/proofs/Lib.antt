@@ -1,2 +1,4 @@
 -- What the proofs of several functions use.
 pub mod Lines
+pub mod Numbers
+pub mod Reasons

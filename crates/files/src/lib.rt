@@ -17,7 +17,7 @@ use std::io::{Print, Read, Stdin};
 use std::os::fd::{AsRawFd, IntoRawFd};
 use std::rt::{Env, Files};
 use std::{io, str};
-pub use unread::Unread;
+pub use unread::{ESPIPE, Unread, number_of};
 pub use word::Word;
 
 // Places for an argument: the longest path of the system has one byte less.
@@ -130,7 +130,8 @@ pub fn say_unread(to: &impl Print, name: &[u8], error: Unread) {
 
 // The same of an argument that is no name: it is empty, or longer than a path.
 pub fn say_nameless(to: &impl Print, i: usize, error: Unread) {
-    let _ = print!(to; "argument {i}");
+    write(to, b"argument ");
+    write_decimal(to, i as u64);
     say_reason(to, error);
 }
 
@@ -144,12 +145,16 @@ pub fn say_unknown(to: &impl Print, option: &[u8], program: &[u8]) {
 }
 
 // Writes, behind a name, that it cannot be read and why, and a line end.
+// Stays some writes, as all of a line that has a name in it: each is tried whatever became of the one before, so that an output that refuses
+// one takes the others.
 fn say_reason(to: &impl Print, error: Unread) {
-    let _ = println!(to; ": cannot be read: {error}");
+    write(to, b": cannot be read: ");
+    write(to, error.words());
+    write(to, b"\n");
 }
 
 // Writes a row of a table and a line end. A table is a text with a line for each row.
-// Stays a table in a text: `row_of` is public, and promises a row of any.
+// Stays a table in a text: the words of a reason are a row of one, and so are receive's of a refusal; `row_of` promises a row of any.
 pub fn say_row(to: &impl Print, table: &[u8], row: usize) {
     write(to, row_of(table, row));
     write(to, b"\n");

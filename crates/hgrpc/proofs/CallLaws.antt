@@ -17,7 +17,7 @@ use Rattle.channel.specs.declared.Refusal.{Refusal}
 use Rattle.channel.specs.Receiver.{fresh_state}
 use Rattle.channel.specs.Channel.{feed_of, finish_of, fed_with, finished}
 use Rattle.session.specs.Session.{Reply}
-use Rattle.layout.specs.State.{state_length, decode, is_state, state_into}
+use Rattle.layout.specs.State.{state_length, encode, decode, is_state, state_into}
 use Rattle.layout.proofs.StateLaws.{state-length, state-none, state-put}
 use Rattle.status.specs.Row.{ActiveCount, active_count, active_of, shown, shown_in_bytes}
 use Rattle.hgrpc.specs.Calls.{kept, answer, fed_answer, fresh_answer, finish_answer, feed_answer, active_answer, row_answer}
@@ -56,6 +56,12 @@ module _ (b : List ℕ) where
         → kept a.number b' ≡ finish_answer b id
     unfolding finish_answer
     finish-done s e r a b' g q h = rw (e, ← g, q, state-put b b' a.next (long s e) h)
+
+    -- a refused one leaves the state, and its bytes
+    pub finish-kept : (s : Channel) → decode b ≡ some s → b ≡ encode s → (r : Result Channel Refusal) (a : Reply Channel) → finished s r ≡ finish_of s id → finished s r ≡ a → a.next ≡ s
+        → kept a.number b ≡ finish_answer b id
+    unfolding finish_answer
+    finish-kept s e k r a g q n = rw (e, ← g, q, n) (ap (kept a.number) k)
 
   pub active-none : decode b ≡ none → active_count 3 0 ≡ active_answer b
   unfolding active_answer

@@ -26,10 +26,12 @@ pub extern "C" fn hgrpc_board_apply(bytes: &mut [u8], command: &[u8]) -> u32
     let Some(board) = board_layout::read(&bytes[..]) else {
         return 3;
     };
-    let applied = board.apply(command);
-    board_layout::put_board(bytes, applied.unwrap_or(board));
-    match applied {
-        Ok(_) => 0,
+    match board.apply(command) {
+        Ok(next) => {
+            board_layout::put_board(bytes, next);
+            0
+        }
+        // The board stays, and its bytes with it: it has no others.
         Err(refusal) => u32::from(refusal),
     }
 }

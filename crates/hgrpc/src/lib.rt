@@ -68,9 +68,7 @@ pub extern "C" fn hgrpc_finish(state: &mut [u8], id: u16) -> u32
             layout::put_state(state, next);
             0
         }
-        Err(refusal) => {
-            layout::put_state(state, channel);
-            u8::from(refusal) as u32
-        }
+        // The state stays, and its bytes with it: it has no others.
+        Err(refusal) => u8::from(refusal) as u32,
     }
 }

@@ -1,12 +1,12 @@
 // A channel's state in bytes: whether bytes are a state's, the state of bytes, and the bytes of a state.
 #![tactic(auto)]
 
-ghost use Rattle.std.specs.Prelude.{◌≡◌, refl};
+ghost use Rattle.std.specs.Prelude.{◌≡◌, refl, IfSome};
 ghost use Rattle.std.proofs.Common.{rules};
 ghost use Rattle.fields.specs.Fields.{number, flag, read};
 ghost use Rattle.fields.proofs.Local.{number_local, choice_local, both_local, many_local, standing_local};
 ghost use Rattle.requests.specs.Phases.{code};
-ghost use Rattle.layout.specs.State.{phase_of, phase_count, slot, parts_of, of_parts, channel, decode, is_state, state_from, state_into};
+ghost use Rattle.layout.specs.State.{phase_of, phase_count, slot, parts_of, of_parts, channel, encode, decode, is_state, state_from, state_into};
 
 use channel::Channel;
 use fields::{Field, Flag};
@@ -83,6 +83,15 @@ impl Field<SLOT> for SlotField {
     ghost local = { Prim.search (number_local, choice_local, both_local, standing_local) depth 20 };
 }
 
+// The three bytes of a pending count, the lowest first.
+#[tactic(auto, using(fields::proofs::Places::three))]
+fn pending_bytes(n: usize) -> [u8; 3]
+    ensures { result ≡ (number 3).put n }
+{
+    let [low, middle, high, ..] = n.to_le_bytes();
+    [low, middle, high]
+}
+
 // A state: its dead number, its pending count, its slots, its streams and its count of active requests.
 struct ChannelField;
 
@@ -110,7 +119,7 @@ impl Field<STATE> for ChannelField {
     fn put(s: Channel) -> [u8; STATE] {
         let mut b = [0u8; STATE];
         b[DEAD] = s.dead;
-        buffer::put(&mut b, PENDING, &s.pending.to_le_bytes()[..3]);
+        buffer::put(&mut b, PENDING, &pending_bytes(s.pending));
         let slots = fields::put_all::<SlotField, SLOT, 8>(&s.slots);
         buffer::put(&mut b, SLOTS, slots.as_flattened());
         let streams = fields::put_all::<Flag, 1, 128>(&s.streams);
@@ -144,12 +153,16 @@ pub fn state_of(b: &[u8]) -> Channel
     fields::value_from::<ChannelField, STATE>(Channel::fresh(), b)
 }
 
-// The state of its bytes, if they are a state's.
-#[tactic(auto, unfolding(crate::specs::State::decode))]
+// The state of its bytes, if they are a state's: `bytes` says that it has no others.
+// Stays two calls, one that judges and one that reads: of `fields::read` the compiler makes steps for each part, which take twice as long.
 pub fn read(b: &[u8]) -> Option<Channel>
-    ensures { read result ≡ decode b.now }
+    ensures value { read result ≡ decode b.now }
+    ensures bytes { IfSome result (λ s. b.now ≡ encode s) }
 {
-    fields::read::<ChannelField, STATE>(b)
+    if !is_state(b) {
+        return None;
+    }
+    Some(state_of(b))
 }
 
 // Puts a state into its bytes; where there are more or fewer of them, they stay as they are.

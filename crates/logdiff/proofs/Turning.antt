@@ -11,7 +11,7 @@ use Rattle.log_compare.specs.declared.Entry.TheVariants.{Both, First, Second}
 use Rattle.log_compare.specs.declared.Step.{Step}
 use Rattle.logdiff.specs.Lines.{length_of, record_of, line_of, lines_of}
 use Rattle.logdiff.specs.Sizes.{room_length}
-use Rattle.logdiff.specs.Turns.{at_hand, Filled, Passed, Kept, step_in, Stepped, Turned}
+use Rattle.logdiff.specs.Turns.{at_hand, Filled, Passed, HasRoom, Kept, step_in, Stepped, Turned}
 use Rattle.logdiff.specs.declared.window.Window.{Window}
 use Rattle.logdiff.specs.declared.compare.Run.{Run}
 use Rattle.logdiff.specs.declared.compare.Rooms.{Rooms}
@@ -72,7 +72,7 @@ module _ (run r : Run) (rooms rooms' : Rooms) (x y mid : List ℕ) (one two : Bo
     (e : stepped s ≡ step_of (standing run.state) x one y two)
     (a : rooms'.first ≡ rooms.first) (b : rooms'.second ≡ rooms.second)
     (first : Passed run.first s.first r.first) (second : Passed run.second s.second r.second) (state : r.state ≡ s.state)
-    (kept : Kept rooms.out mid) (put : rooms'.out ≡ appended room_length mid (lines_of s.said)) where
+    (room : HasRoom rooms) (put : mid ≡ appended room_length rooms.out (lines_of s.said)) (kept : Kept mid rooms'.out) where
   same : stepped s ≡ step_in run rooms
   same = rw (← xs, ← ends, ← ys, ← end) e
 
@@ -80,10 +80,10 @@ module _ (run r : Run) (rooms rooms' : Rooms) (x y mid : List ℕ) (one two : Bo
   unfolding stepped
   said = ap (λ (z : Steps.Stepped). z.said) same
 
-  fits : rooms'.out ≡ mid ++ lines_of (step_in run rooms).said
+  fits : mid ≡ rooms.out ++ lines_of (step_in run rooms).said
   fits =
-      let k : length (mid ++ lines_of s.said) ≤ room_length = omega (arith, length-append mid (lines_of s.said), lines-length s.said, kept.line) in
-      put ∙ take_all room_length (mid ++ lines_of s.said) k ∙ rw said
+      let k : length (rooms.out ++ lines_of s.said) ≤ room_length = omega (arith, length-append rooms.out (lines_of s.said), lines-length s.said, room) in
+      put ∙ take_all room_length (rooms.out ++ lines_of s.said) k ∙ rw said
 
   pub next : Stepped run rooms r rooms'
   unfolding stepped
@@ -91,7 +91,8 @@ module _ (run r : Run) (rooms rooms' : Rooms) (x y mid : List ℕ) (one two : Bo
     state = ap standing state ∙ ap (λ (z : Steps.Stepped). z.state) same;
     first = rw a (hand-passed rooms.first run.first r.first s.first first ∙ ap (λ (z : Steps.Stepped). drop z.first (at_hand rooms.first run.first)) same);
     second = rw b (hand-passed rooms.second run.second r.second s.second second ∙ ap (λ (z : Steps.Stepped). drop z.second (at_hand rooms.second run.second)) same);
-    output = ⊎_elim (λ h. inl (fits ∙ rw h)) (λ h. inr (fits ∙ rw h)) kept.lines;
+    output = ⊎_elim (λ h. inl (h ∙ fits)) inr kept.lines;
+    room = kept.line;
   }
 
 -- a turn: the next pieces are read, and then run goes from middle on

@@ -40,11 +40,16 @@ pub record Passed (w : Window) (n : ℕ) (r : Window) : Type 0 where
 
 -- ---- a run
 
--- at the front of both logs
-pub record Started (one two : Log) (r : Run) : Type 0 where
+-- at the front of both logs, with no output that waits
+pub record Started (one two : Log) (r : Run) (rooms : Rooms) : Type 0 where
   pub state : r.state ≡ Steps.fresh
   pub first : Begun one r.first
   pub second : Begun two r.second
+  pub held : rooms.out ≡ []
+
+-- a line fits behind the output that waits
+abbrev pub HasRoom : Rooms → Type 0
+HasRoom rooms = length rooms.out + 64 ≤ room_length
 
 -- the output that waits is written, or a line fits behind it
 pub record Kept (out out' : List ℕ) : Type 0 where
@@ -57,12 +62,13 @@ step_in run rooms =
     step_of (standing run.state) (at_hand rooms.first run.first) (run.first.left == 0) (at_hand rooms.second run.second) (run.second.left == 0)
 
 -- the state is that behind the step, what it took of each log is no more at hand, and the line that it says stands behind the output that
--- waits, or alone where that is written
+-- waits, or is written with it; then a line fits again
 pub record Stepped (run : Run) (rooms : Rooms) (r : Run) (rooms' : Rooms) : Type 0 where
   pub state : standing r.state ≡ (step_in run rooms).state
   pub first : at_hand rooms'.first r.first ≡ drop (step_in run rooms).first (at_hand rooms.first run.first)
   pub second : at_hand rooms'.second r.second ≡ drop (step_in run rooms).second (at_hand rooms.second run.second)
-  pub output : (rooms'.out ≡ rooms.out ++ lines_of (step_in run rooms).said) ⊎ (rooms'.out ≡ lines_of (step_in run rooms).said)
+  pub output : (rooms'.out ≡ rooms.out ++ lines_of (step_in run rooms).said) ⊎ (rooms'.out ≡ [])
+  pub room : HasRoom rooms'
 
 -- before the step the next pieces are read
 pub record Turned (run : Run) (rooms : Rooms) (r : Run) (rooms' : Rooms) : Type 0 where

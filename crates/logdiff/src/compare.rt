@@ -1,6 +1,6 @@
 // Two logs that were read through are read again, and compared.
 ghost use Rattle.std.specs.Prelude.{◌≡◌, IfOk};
-ghost use Rattle.logdiff.specs.Turns.{Started, Kept, Stepped, Turned};
+ghost use Rattle.logdiff.specs.Turns.{Started, HasRoom, Kept, Stepped, Turned};
 
 use crate::through::Log;
 use crate::window::{ROOM, Room, Window};
@@ -22,10 +22,10 @@ struct Run<'a> {
 
 // The bytes of the logs that are at hand, and the output that waits to be written.
 #[derive(Drop)]
-struct Rooms {
-    first: Room,
-    second: Room,
-    out: Line<ROOM>,
+pub(crate) struct Rooms {
+    pub(crate) first: Room,
+    pub(crate) second: Room,
+    pub(crate) out: Line<ROOM>,
 }
 
 // Why a comparison ends: both logs are compared to their ends; a log is another one than was read through; the output is not taken.
@@ -38,15 +38,10 @@ enum End {
 
 // Compares the logs, and writes a line for each difference. A proved loop has to end, and nothing of the files says that it does: no run uses
 // up so many turns.
-pub(crate) fn compare_all(rt: &HostRuntime, one: &Log, two: &Log) {
-    let mut rooms = Rooms {
-        first: [0; ROOM],
-        second: [0; ROOM],
-        out: Line::new(),
-    };
-    let mut run = Run::start(one, two);
+pub(crate) fn compare_all(rt: &HostRuntime, one: &Log, two: &Log, rooms: &mut Rooms) {
+    let mut run = Run::start(one, two, rooms);
     for _ in 0..u64::MAX {
-        match run.turn(rt, &mut rooms) {
+        match run.turn(rt, rooms) {
             Ok(next) => run = next,
             Err(end) => return finish(rt, end, &mut rooms.out),
         }
@@ -70,10 +65,11 @@ fn finish(rt: &HostRuntime, end: End, out: &mut Line<ROOM>) {
 }
 
 impl<'a> Run<'a> {
-    // At the front of both logs.
-    fn start(one: &'a Log, two: &'a Log) -> Run<'a>
-        ensures { Started one.now two.now result }
+    // At the front of both logs. No output waits.
+    fn start(one: &'a Log, two: &'a Log, rooms: &mut Rooms) -> Run<'a>
+        ensures { Started one.now two.now result rooms.new }
     {
+        rooms.out.clear();
         Run {
             state: Comparing::start(),
             first: Window::start(one),
@@ -84,6 +80,7 @@ impl<'a> Run<'a> {
     // Something of each log is at hand, or it is at its end: then a step is made. Where a read brings nothing of the bytes that are left, the
     // log changed.
     fn turn(self, output: &impl Print, rooms: &mut Rooms) -> Result<Run<'a>, End>
+        requires { HasRoom rooms.old }
         ensures { IfOk result (λ run. Turned self.entry rooms.old run rooms.new) }
     {
         let first = self.first.filled(&mut rooms.first);
@@ -105,8 +102,10 @@ impl<'a> Run<'a> {
         run.stepped(output, rooms)
     }
 
-    // A step with what is at hand. A line is put for what it says only where both logs can have what their heads claim.
+    // A step with what is at hand. A line is put for what it says only where both logs can have what their heads claim. The output is written
+    // before the logs are read on, where the next line may not fit.
     fn stepped(self, output: &impl Print, rooms: &mut Rooms) -> Result<Run<'a>, End>
+        requires { HasRoom rooms.old }
         ensures { IfOk result (λ run. Stepped self.entry rooms.old run rooms.new) }
     {
         let step = self.state.step(
@@ -116,8 +115,8 @@ impl<'a> Run<'a> {
         if let Some(log) = self.other(step) {
             return Err(End::Changed(log));
         }
-        make_room(output, &mut rooms.out)?;
         lines::put_said(step.said, &mut rooms.out);
+        make_room(output, &mut rooms.out)?;
         Ok(Run {
             state: step.state,
             first: self.first.taken(step.first),

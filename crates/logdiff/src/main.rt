@@ -10,8 +10,11 @@ mod say;
 mod through;
 mod window;
 
+use compare::Rooms;
 use files::{Source, Word};
 use std::fs::OpenOptions;
+use text::Line;
+use window::ROOM;
 
 fn main(rt: HostRuntime) {
     match files::arg_count(&rt) {
@@ -39,13 +42,18 @@ fn asks_help(rt: &HostRuntime) -> bool {
     Word::of(rt, 1).is_ok_and(|word| matches!(word.as_slice(), b"--help"))
 }
 
-// Reads one log through, then the other, and compares them.
+// Reads one log through, then the other, and compares them, all in the same rooms.
 fn compare_logs(rt: &HostRuntime, count: usize) {
-    let Some(one) = through::look(rt, 1, count) else {
+    let mut rooms = Rooms {
+        first: [0; ROOM],
+        second: [0; ROOM],
+        out: Line::new(),
+    };
+    let Some(one) = through::look(rt, 1, count, &mut rooms.first) else {
         return;
     };
-    let Some(two) = through::look(rt, 2, count) else {
+    let Some(two) = through::look(rt, 2, count, &mut rooms.second) else {
         return;
     };
-    compare::compare_all(rt, &one, &two);
+    compare::compare_all(rt, &one, &two, &mut rooms);
 }

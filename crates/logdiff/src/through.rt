@@ -4,7 +4,7 @@ ghost use Rattle.log_compare.specs.Scan.{scan_view, scan_of};
 ghost use Rattle.logdiff.specs.Turns.{Judged};
 
 use crate::say::Fault;
-use crate::window::{ROOM, Room};
+use crate::window::Room;
 use crate::{pieces, say};
 use files::{Source, Unread, Word};
 use log_compare::Scanning;
@@ -27,15 +27,16 @@ struct Reading {
     held: usize,
 }
 
-// Opens the log that an argument names, of so many with the program's own name, and reads it through. What is at fault is said.
+// Opens the log that an argument names, of so many with the program's own name, and reads it through, in a room that is lent. What is at
+// fault is said.
 // Stays a number, `log`: a `Side` would be turned into the argument's number again, and log 3, one too many, is said too.
-pub(crate) fn look(rt: &HostRuntime, log: usize, count: usize) -> Option<Log> {
+pub(crate) fn look(rt: &HostRuntime, log: usize, count: usize, room: &mut Room) -> Option<Log> {
     if count <= log {
         say::say_count(rt, log);
         return None;
     }
     match Word::of(rt, log) {
-        Ok(word) => look_at(rt, log, word.as_slice()),
+        Ok(word) => look_at(rt, log, word.as_slice(), room),
         Err(error) => {
             say::say_fault(rt, log, b"", Fault::Nameless(error));
             None
@@ -44,8 +45,8 @@ pub(crate) fn look(rt: &HostRuntime, log: usize, count: usize) -> Option<Log> {
 }
 
 // The same of a log's name.
-fn look_at(rt: &HostRuntime, log: usize, name: &[u8]) -> Option<Log> {
-    match whole_log(rt, name) {
+fn look_at(rt: &HostRuntime, log: usize, name: &[u8], room: &mut Room) -> Option<Log> {
+    match whole_log(rt, name, room) {
         Ok(found) => Some(found),
         Err(fault) => {
             say::say_fault(rt, log, name, fault);
@@ -55,9 +56,9 @@ fn look_at(rt: &HostRuntime, log: usize, name: &[u8]) -> Option<Log> {
 }
 
 // The log of that name, if it can be read to its end and is whole.
-fn whole_log(rt: &HostRuntime, name: &[u8]) -> Result<Log, Fault> {
+fn whole_log(rt: &HostRuntime, name: &[u8], room: &mut Room) -> Result<Log, Fault> {
     let file = opened(rt, name)?;
-    let reading = read_through(&file);
+    let reading = read_through(&file, room);
     judged(file, reading)
 }
 
@@ -83,7 +84,8 @@ fn opened_again(rt: &HostRuntime, mut input: Stdin) -> Result<File, Unread> {
 // Standard input by its number.
 const INPUT: &str = "/proc/self/fd/0";
 
-// Whether standard input is a pipe, or a socket.
+// Whether standard input is a pipe, or a socket. It is not inlined, so that the library's copy of the path is on the stack only meanwhile.
+#[inline(never)]
 fn is_pipe(rt: &HostRuntime) -> bool {
     fs::metadata(rt, INPUT).is_ok_and(|found| {
         let kind = found.file_type();
@@ -92,11 +94,10 @@ fn is_pipe(rt: &HostRuntime) -> bool {
 }
 
 // Reads a log to its end. A proved loop has to end, and nothing says that the log does: no run uses up so many turns.
-fn read_through(file: &File) -> Result<Scanning, Unread> {
-    let mut room = [0u8; ROOM];
+fn read_through(file: &File, room: &mut Room) -> Result<Scanning, Unread> {
     let mut scan = Scanning::start();
     for _ in 0..u64::MAX {
-        let reading = read_some(scan, file, &mut room)?;
+        let reading = read_some(scan, file, room)?;
         scan = reading.scan;
         if reading.held == 0 {
             return Ok(scan);

@@ -1,1 +1,2 @@
 pub mod Nearer
+pub mod Words

@@ -113,12 +113,13 @@ fn full_frames(size: usize, n: usize) -> usize
 }
 
 // How much of the room is left behind the frames of n bytes, `full` full ones and the last. With size 1 their total is nine times the length
-// and can pass 2^64: then they have no room either.
+// and can pass 2^64, so it is not added up: of what the bytes leave, each frame takes eight for its header.
 fn room_left(room: usize, full: usize, n: usize) -> Option<usize>
     ensures { result ≡ room_left room full n }
 {
-    let total = full.checked_add(1)?.checked_mul(8)?.checked_add(n)?;
-    room.checked_sub(total)
+    let rest = room.checked_sub(n)?;
+    let eights = (rest / 8).checked_sub(full)?.checked_sub(1)?;
+    Some(8 * eights + rest % 8)
 }
 
 // Puts a command's frames and those of its data into the output, or refuses where they have no room.

@@ -1,4 +1,5 @@
-// The lines that the program writes. A function that puts something puts it behind what a line has, as far as the line's room goes.
+// The lines that the program writes. A function that puts something puts it behind what a line has, as far as the line's room goes; the
+// others take away what the line had.
 ghost use Rattle.std.specs.Prelude.{◌≡◌, ◌++◌, take};
 ghost use Rattle.cbor.specs.Cbor.{item_at};
 ghost use Rattle.text.specs.Text.{appended, decimal_of, negative_of};
@@ -10,57 +11,58 @@ use cbor::Item;
 use text::Line;
 
 // Room for the longest line, of 4,135 bytes: the 4,096 digits of an item's 2,048 bytes, 38 for the longest kind and number, and a newline.
-const ROOM: usize = 4160;
+pub const ROOM: usize = 4160;
 
 // What there is to say of a whole line: nothing of one that is skipped.
-pub fn said(reading: &Reading) -> Line<ROOM>
-    ensures { result ≡ said_of reading.now.number reading.now.part reading.now.held reading.now.item }
+pub fn said(reading: &Reading, line: &mut Line<ROOM>)
+    ensures { line.new ≡ said_of reading.now.number reading.now.part reading.now.held reading.now.item }
 {
     match reading.part {
-        Part::Digits if reading.held == 0 => Line::new(),
-        Part::Digits | Part::Note => said_of_digits(reading),
-        Part::Comment => Line::new(),
-        Part::NotHex => fault(reading.number, b"not hex"),
-        Part::TooLong => fault(reading.number, b"longer than 4096 digits"),
+        Part::Digits if reading.held == 0 => line.clear(),
+        Part::Digits | Part::Note => said_of_digits(reading, line),
+        Part::Comment => line.clear(),
+        Part::NotHex => fault(reading.number, b"not hex", line),
+        Part::TooLong => fault(reading.number, b"longer than 4096 digits", line),
     }
 }
 
 // What is wrong with a line that cannot be read, as far as the room goes.
-pub fn fault(number: u64, what: &[u8]) -> Line<ROOM>
-    ensures { result ≡ take room (fault_of number what.now) }
+pub fn fault<const N: usize>(number: u64, what: &[u8], line: &mut Line<N>)
+    ensures { line.new ≡ take N (fault_of number what.now) }
 {
-    let mut line = Line::new();
+    line.clear();
     line.put(b"line ");
     line.put_decimal(number);
     line.put(b": ");
     line.put(what);
     line.put(b"\n");
-    line
 }
 
 // The same as `said`, for a line of digits alone, or of digits and a note. Where `held` counts more digits than the item has, the whole
 // item is judged.
-fn said_of_digits(reading: &Reading) -> Line<ROOM>
-    ensures { result ≡ said_of_digits reading.now.number reading.now.held reading.now.item }
+fn said_of_digits(reading: &Reading, line: &mut Line<ROOM>)
+    ensures { line.new ≡ said_of_digits reading.now.number reading.now.held reading.now.item }
 {
     if reading.held == 0 {
-        return fault(reading.number, b"no digits");
+        return fault(reading.number, b"no digits", line);
     }
     if reading.held % 2 == 1 {
-        return fault(reading.number, b"an odd number of digits");
+        return fault(reading.number, b"an odd number of digits", line);
     }
-    judged(&reading.item[..(reading.held / 2).min(frame::MAX_COMMAND)])
+    judged(
+        &reading.item[..(reading.held / 2).min(frame::MAX_COMMAND)],
+        line,
+    );
 }
 
 // The bytes in hex, and what they are, as far as the room goes.
-fn judged(item: &[u8]) -> Line<ROOM>
-    ensures { result ≡ take room (answer_of item.now) }
+fn judged(item: &[u8], line: &mut Line<ROOM>)
+    ensures { line.new ≡ take room (answer_of item.now) }
 {
-    let mut line = Line::new();
+    line.clear();
     line.put_hex(item);
-    put_judgement(item, &mut line);
+    put_judgement(item, line);
     line.put(b"\n");
-    line
 }
 
 // Whether the bytes are one item of the subset, and then its kind.

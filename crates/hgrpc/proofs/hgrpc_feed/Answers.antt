@@ -7,8 +7,8 @@ pub returns-then-work-lt-WORK_AREA : goal.returns-then-work-lt-WORK_AREA
 returns-then-work-lt-WORK_AREA c = feed-short _ _ _ _ c.if-work-lt-WORK_AREA.true
 
 pub returns-in_default : goal.returns-in_default
-returns-in_default c = feed-none _ _ _ _ c.if-work-lt-WORK_AREA.false (closed _ _ c.in_default.is c.read.ensures)
+returns-in_default c = feed-none _ _ _ _ c.if-work-lt-WORK_AREA.false (closed _ _ c.in_default.is c.read.ensures.value)
 
 pub returns : goal.returns
 returns c =
-    feed-done _ _ _ _ c.if-work-lt-WORK_AREA.false _ (opened _ _ _ c.in-Some.is c.read.ensures) _ _ _ _ c.feed-fed.ensures c.put_state.ensures
+    feed-done _ _ _ _ c.if-work-lt-WORK_AREA.false _ (opened _ _ _ c.in-Some.is c.read.ensures.value) _ _ _ _ c.feed-fed.ensures c.put_state.ensures

@@ -8,5 +8,7 @@ use Rattle.requests.proofs.place_of.Goals as goal
 
 pub returns : goal.returns
 returns c =
+    let found =
     position_from_yields_List (is_id c.args.id) _ _ _ c.position.ensures.ran (YieldsList-from_slice c.args.slots.now cc) (λ x b q k. search (rules, tests))
-    ∙ place-is _ _ c.told-slots
+    ∙ place-is _ _ c.told-slots in
+    search (found, rules, tests)

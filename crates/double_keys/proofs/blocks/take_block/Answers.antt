@@ -1,7 +1,7 @@
 -- `double_keys::blocks::take_block` meets its contract. The loop's invariant: the row has the keys passed, and its places lie in s.
 -- Assumes nothing.
 use Rattle.std.proofs.Common.{refl}
-use Rattle.double_keys.proofs.BlockLaws.{taking, taken, taken-full, taken-one}
+use Rattle.double_keys.proofs.BlockLaws.{taking, taken-all, taken-full, taken-one}
 use Rattle.double_keys.proofs.blocks.take_block.Goals as goal
 
 pub loop-e-init : goal.loop-e-init
@@ -17,5 +17,7 @@ returns-then-starts-count c =
     let g = rw (← c.loop-e.invariant.0) at c.in-Some.ensures.steps in
     taken-full c.loop-e.invariant.1 c.in-Some.e c.next.new.self g c.keep-count.ensures c.if-starts-count.true
 
-pub returns-in_default : goal.returns-in_default
-returns-in_default c = taken c.loop-e.invariant.1
+pub returns : goal.returns
+returns c =
+    let g = rw (← c.loop-e.invariant.0, c.in_default.is) at c.next.ensures.steps in
+    taken-all c.loop-e.invariant.1 c.next.new.self g

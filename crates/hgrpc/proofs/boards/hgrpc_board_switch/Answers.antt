@@ -4,10 +4,10 @@ use Rattle.hgrpc.proofs.BoardCalls.{switch-none, switch_outside, switch-done}
 use Rattle.hgrpc.proofs.boards.hgrpc_board_switch.Goals as goal
 
 pub returns-in_default : goal.returns-in_default
-returns-in_default c = switch-none _ _ c.read.ensures _ c.in_default.is
+returns-in_default c = switch-none _ _ c.read.ensures.value _ c.in_default.is
 
 pub returns-then-coil-ge-COILS : goal.returns-then-coil-ge-COILS
-returns-then-coil-ge-COILS c = switch_outside _ _ c.read.ensures _ c.in-Some.is _ c.if-coil-ge-COILS.true
+returns-then-coil-ge-COILS c = switch_outside _ _ c.read.ensures.value _ c.in-Some.is _ c.if-coil-ge-COILS.true
 
 pub returns : goal.returns
-returns c = switch-done _ _ c.read.ensures _ c.in-Some.is _ c.if-coil-ge-COILS.false _ c.coil_at.ensures
+returns c = switch-done _ _ c.read.ensures.value _ c.in-Some.is _ c.if-coil-ge-COILS.false _ c.coil_at.ensures

@@ -8,15 +8,15 @@ use Rattle.hgrpc.proofs.CallLaws.{opened, closed, row-none, row_done}
 use Rattle.hgrpc.proofs.screen.hgrpc_row.Goals as goal
 
 pub returns-in_default : goal.returns-in_default
-returns-in_default c = row-none _ _ (closed _ _ c.in_default.is c.read.ensures)
+returns-in_default c = row-none _ _ (closed _ _ c.in_default.is c.read.ensures.value)
 
 pub returns-in-Ok : goal.returns-in-Ok
 returns-in-Ok c =
-    (row_done _ _ _ (opened _ _ _ c.in-Some.is c.read.ensures) _ _
+    (row_done _ _ _ (opened _ _ _ c.in-Some.is c.read.ensures.value) _ _
     (ap (λ (r : Result Unit Refusal). shown (refused_by r) c.show_bytes.new.row) (sym c.in-Ok.is) ∙ c.show_bytes.ensures))
 
 pub returns-in-Err : goal.returns-in-Err
 returns-in-Err c =
     rw c.from.ensures
-    (row_done _ _ _ (opened _ _ _ c.in-Some.is c.read.ensures) _ _
+    (row_done _ _ _ (opened _ _ _ c.in-Some.is c.read.ensures.value) _ _
     (ap (λ (r : Result Unit Refusal). shown (refused_by r) c.show_bytes.new.row) (sym c.in-Err.is) ∙ c.show_bytes.ensures))

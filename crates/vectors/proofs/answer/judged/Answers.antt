@@ -4,5 +4,5 @@ use Rattle.vectors.proofs.answer.judged.Goals as goal
 
 pub returns : goal.returns
 returns c =
-    let l = c.new-line.result in
-    rw c.new-line.ensures at (behind 4160 l _ _ (behind 4160 l _ _ c.put_hex.ensures c.put_judgement.ensures) c.put.ensures)
+    let l = c.clear.new.self in
+    rw c.clear.ensures at (behind 4160 l _ _ (behind 4160 l _ _ c.put_hex.ensures c.put_judgement.ensures) c.put.ensures)

@@ -7,7 +7,7 @@ use Rattle.double_keys.proofs.walk.EntriesIterator.next.Goals as goal
 pub returns-in_err-left-clause-steps : goal.returns-in_err-left-clause-steps
 returns-in_err-left-clause-steps c =
     let l = rw c.in_err-left.was at c.checked_sub.ensures in
-    rw c.from_residual.ensures ((ends _ _ c.args.self.now.left _ (omega (arith, l)), refl, refl), refl, refl)
+    rw c.from_residual.ensures ((ends _ _ c.args.self.now.left _ (omega (arith, l)), omega (arith, l), refl), refl, refl)
 
 pub returns-in_err-e-clause-steps : goal.returns-in_err-e-clause-steps
 returns-in_err-e-clause-steps c =
