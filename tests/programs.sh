@@ -121,10 +121,12 @@ printed=$(bash -euc "${together#*&&}" 2>&1)
 }
 send=target/send
 
-# The README's C program, built and run by its own lines.
+# The README's C program, built and run by its own lines, in a folder with copies of
+# what they name: rt ci takes no links, so that none may be left for the next run.
 section=$(sed -n '/^## Send from C$/,/^## Call/p' README.md)
-mkdir "$out/laptop"
-ln -s "$PWD/include" "$PWD/target" "$out/laptop"
+mkdir -p "$out/laptop/target"
+cp -r include "$out/laptop"
+cp -r target/bin target/staticlib "$out/laptop/target"
 block "$section" 1 >"$out/laptop/laptop.c"
 gcc -std=c99 -Wall -Wextra -Wpedantic -Wconversion -Werror -Iinclude -fsyntax-only "$out/laptop/laptop.c"
 shown=$(block "$section" 3)
