@@ -55,10 +55,14 @@ module _ (b : List ℕ) (o : answer.Option Board) (d : read o ≡ decode b) wher
         by true f = board-length b f
         by false f = let k : none ≡ some x = sym (board-none b f) ∙ is in absurd (cc)
 
-    -- the board after the command is put back; where the command is refused, the board stays, and its bytes
-    pub apply_done : (s : List ℕ) (next : Board) (b' : List ℕ) → comes_to x (Ok next) ≡ applied s x → b' ≡ board_into b next → kept 0 b' ≡ apply_answer b s
+    -- the board after the command is put back, as it was where the command is refused; or then the board stays, and its bytes
+    pub apply_done : (s : List ℕ) (r : Result Board Refusal) (b' : List ℕ) → comes_to x r ≡ applied s x → b' ≡ board_into b (result_unwrap_or r x) → kept (comes_to x r).number b' ≡ apply_answer b s
     unfolding apply_answer
-    apply_done s next b' g f = rw (is, ← g) (ap (kept 0) (board-put b b' next long f))
+    apply_done s r b' g f = rw (is, ← g) (by r (board-put b b' (result_unwrap_or r x) long f))
+      where
+        by : (r : Result Board Refusal) → b' ≡ encode (result_unwrap_or r x) → kept (comes_to x r).number b' ≡ applied_answer (comes_to x r)
+        by (Ok next) h = ap (kept 0) h
+        by (Err q) h = ap (kept (refusal_number q)) h
 
     pub apply_kept : (s : List ℕ) (q : Refusal) → comes_to x (Err q) ≡ applied s x → b ≡ encode x → kept (refusal_number q) b ≡ apply_answer b s
     unfolding apply_answer

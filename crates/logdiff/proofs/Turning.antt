@@ -1,5 +1,5 @@
 -- What a step makes of a run. Assumes nothing.
-use Rattle.std.proofs.Common.{◌≡◌, ℕ, ◌+◌, ◌-◌, ◌<◌, ◌≤◌, min, Bool, true, false, eqb, leb, Option, Some, None, List, [], length, take, drop, ◌++◌, sym, refl, ap, ◌∙◌, inl, inr, ⊎_elim, arith, length-append, drop_of_length-le, length-take, drop-drop, leb-false, leb-true, take_all, append-nil, Result, Ok, Err, IfOk}
+use Rattle.std.proofs.Common.{◌≡◌, ℕ, ◌+◌, ◌-◌, ◌<◌, ◌≤◌, min, Bool, true, false, eqb, leb, Option, Some, None, List, [], length, take, drop, ◌++◌, sym, refl, ap, ◌∙◌, arith, length-append, drop_of_length-le, length-take, drop-drop, leb-false, leb-true, take_all, append-nil, Result, Ok, Err, IfOk}
 use Rattle.buffer.proofs.WriteLaws.{take_of_drop}
 use Rattle.keys.specs.Keys.{part}
 use Rattle.text.specs.Text.{appended}
@@ -11,7 +11,7 @@ use Rattle.log_compare.specs.declared.Entry.TheVariants.{Both, First, Second}
 use Rattle.log_compare.specs.declared.Step.{Step}
 use Rattle.logdiff.specs.Lines.{length_of, record_of, line_of, lines_of}
 use Rattle.logdiff.specs.Sizes.{room_length}
-use Rattle.logdiff.specs.Turns.{at_hand, Filled, Passed, HasRoom, Kept, step_in, Stepped, Turned}
+use Rattle.logdiff.specs.Turns.{at_hand, Filled, Passed, HasRoom, step_in, Stepped, Turned}
 use Rattle.logdiff.specs.declared.window.Window.{Window}
 use Rattle.logdiff.specs.declared.compare.Run.{Run}
 use Rattle.logdiff.specs.declared.compare.Rooms.{Rooms}
@@ -67,12 +67,12 @@ lines-length (Some e) = line-length e
 
 -- ---- a step: run goes to r
 
-module _ (run r : Run) (rooms rooms' : Rooms) (x y mid : List ℕ) (one two : Bool) (s : Step)
+module _ (run r : Run) (rooms rooms' : Rooms) (x y : List ℕ) (one two : Bool) (s : Step)
     (xs : x ≡ at_hand rooms.first run.first) (ends : one ≡ eqb run.first.left 0) (ys : y ≡ at_hand rooms.second run.second) (end : two ≡ eqb run.second.left 0)
     (e : stepped s ≡ step_of (standing run.state) x one y two)
     (a : rooms'.first ≡ rooms.first) (b : rooms'.second ≡ rooms.second)
     (first : Passed run.first s.first r.first) (second : Passed run.second s.second r.second) (state : r.state ≡ s.state)
-    (room : HasRoom rooms) (put : mid ≡ appended room_length rooms.out (lines_of s.said)) (kept : Kept mid rooms'.out) where
+    (room : HasRoom rooms) (put : rooms'.out ≡ appended room_length rooms.out (lines_of s.said)) where
   same : stepped s ≡ step_in run rooms
   same = rw (← xs, ← ends, ← ys, ← end) e
 
@@ -80,7 +80,7 @@ module _ (run r : Run) (rooms rooms' : Rooms) (x y mid : List ℕ) (one two : Bo
   unfolding stepped
   said = ap (λ (z : Steps.Stepped). z.said) same
 
-  fits : mid ≡ rooms.out ++ lines_of (step_in run rooms).said
+  fits : rooms'.out ≡ rooms.out ++ lines_of (step_in run rooms).said
   fits =
       let k : length (rooms.out ++ lines_of s.said) ≤ room_length = omega (arith, length-append rooms.out (lines_of s.said), lines-length s.said, room) in
       put ∙ take_all room_length (rooms.out ++ lines_of s.said) k ∙ rw said
@@ -91,8 +91,7 @@ module _ (run r : Run) (rooms rooms' : Rooms) (x y mid : List ℕ) (one two : Bo
     state = ap standing state ∙ ap (λ (z : Steps.Stepped). z.state) same;
     first = rw a (hand-passed rooms.first run.first r.first s.first first ∙ ap (λ (z : Steps.Stepped). drop z.first (at_hand rooms.first run.first)) same);
     second = rw b (hand-passed rooms.second run.second r.second s.second second ∙ ap (λ (z : Steps.Stepped). drop z.second (at_hand rooms.second run.second)) same);
-    output = ⊎_elim (λ h. inl (h ∙ fits)) inr kept.lines;
-    room = kept.line;
+    output = fits;
   }
 
 -- a turn: the next pieces are read, and then run goes from middle on

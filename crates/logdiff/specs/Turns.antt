@@ -62,13 +62,12 @@ step_in run rooms =
     step_of (standing run.state) (at_hand rooms.first run.first) (run.first.left == 0) (at_hand rooms.second run.second) (run.second.left == 0)
 
 -- the state is that behind the step, what it took of each log is no more at hand, and the line that it says stands behind the output that
--- waits, or is written with it; then a line fits again
+-- waits
 pub record Stepped (run : Run) (rooms : Rooms) (r : Run) (rooms' : Rooms) : Type 0 where
   pub state : standing r.state ≡ (step_in run rooms).state
   pub first : at_hand rooms'.first r.first ≡ drop (step_in run rooms).first (at_hand rooms.first run.first)
   pub second : at_hand rooms'.second r.second ≡ drop (step_in run rooms).second (at_hand rooms.second run.second)
-  pub output : (rooms'.out ≡ rooms.out ++ lines_of (step_in run rooms).said) ⊎ (rooms'.out ≡ [])
-  pub room : HasRoom rooms'
+  pub output : rooms'.out ≡ rooms.out ++ lines_of (step_in run rooms).said
 
 -- before the step the next pieces are read
 pub record Turned (run : Run) (rooms : Rooms) (r : Run) (rooms' : Rooms) : Type 0 where
@@ -79,6 +78,14 @@ pub record Turned (run : Run) (rooms : Rooms) (r : Run) (rooms' : Rooms) : Type 
   pub first : Filled run.first rooms.first middle.first read.first
   pub second : Filled run.second rooms.second middle.second read.second
   pub step : Stepped middle read r rooms'
+
+-- behind the turn the output that waits is written, or a line fits behind it
+pub record GoneOn (run : Run) (rooms : Rooms) (r : Run) (rooms' : Rooms) : Type 0 where
+  pub put : Rooms
+  pub turn : Turned run rooms r put
+  pub first : rooms'.first ≡ put.first
+  pub second : rooms'.second ≡ put.second
+  pub output : Kept put.out rooms'.out
 
 -- ---- a log that was read through is compared if no read failed and it ends between records, and then as many bytes of it as were read
 abbrev pub Judged : Result Scanning Unread → Result Log Fault → Type 0

@@ -1,6 +1,6 @@
 // Two logs that were read through are read again, and compared.
 ghost use Rattle.std.specs.Prelude.{◌≡◌, IfOk};
-ghost use Rattle.logdiff.specs.Turns.{Started, HasRoom, Kept, Stepped, Turned};
+ghost use Rattle.logdiff.specs.Turns.{Started, HasRoom, Kept, Stepped, Turned, GoneOn};
 
 use crate::through::Log;
 use crate::window::{ROOM, Room, Window};
@@ -41,7 +41,7 @@ enum End {
 pub(crate) fn compare_all(rt: &HostRuntime, one: &Log, two: &Log, rooms: &mut Rooms) {
     let mut run = Run::start(one, two, rooms);
     for _ in 0..u64::MAX {
-        match run.turn(rt, rooms) {
+        match run.go_on(rt, rooms) {
             Ok(next) => run = next,
             Err(end) => return finish(rt, end, &mut rooms.out),
         }
@@ -77,9 +77,19 @@ impl<'a> Run<'a> {
         }
     }
 
+    // A turn. Then, before the logs are read on, the output is written, where the next line may not fit.
+    fn go_on(self, output: &impl Print, rooms: &mut Rooms) -> Result<Run<'a>, End>
+        requires { HasRoom rooms.old }
+        ensures { IfOk result (λ run. GoneOn self.entry rooms.old run rooms.new) }
+    {
+        let run = self.turn(rooms)?;
+        make_room(output, &mut rooms.out)?;
+        Ok(run)
+    }
+
     // Something of each log is at hand, or it is at its end: then a step is made. Where a read brings nothing of the bytes that are left, the
     // log changed.
-    fn turn(self, output: &impl Print, rooms: &mut Rooms) -> Result<Run<'a>, End>
+    fn turn(self, rooms: &mut Rooms) -> Result<Run<'a>, End>
         requires { HasRoom rooms.old }
         ensures { IfOk result (λ run. Turned self.entry rooms.old run rooms.new) }
     {
@@ -99,12 +109,11 @@ impl<'a> Run<'a> {
         if first.is_empty() && second.is_empty() {
             return Err(run.at_end());
         }
-        run.stepped(output, rooms)
+        run.stepped(rooms)
     }
 
-    // A step with what is at hand. A line is put for what it says only where both logs can have what their heads claim. The output is written
-    // before the logs are read on, where the next line may not fit.
-    fn stepped(self, output: &impl Print, rooms: &mut Rooms) -> Result<Run<'a>, End>
+    // A step with what is at hand. A line is put for what it says only where both logs can have what their heads claim.
+    fn stepped(self, rooms: &mut Rooms) -> Result<Run<'a>, End>
         requires { HasRoom rooms.old }
         ensures { IfOk result (λ run. Stepped self.entry rooms.old run rooms.new) }
     {
@@ -115,13 +124,13 @@ impl<'a> Run<'a> {
         if let Some(log) = self.other(step) {
             return Err(End::Changed(log));
         }
-        lines::put_said(step.said, &mut rooms.out);
-        make_room(output, &mut rooms.out)?;
-        Ok(Run {
+        let run = Run {
             state: step.state,
             first: self.first.taken(step.first),
             second: self.second.taken(step.second),
-        })
+        };
+        lines::put_said(step.said, &mut rooms.out);
+        Ok(run)
     }
 
     // Both logs are at their ends, which lie between records unless one changed.

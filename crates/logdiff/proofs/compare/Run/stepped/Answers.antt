@@ -4,6 +4,6 @@ use Rattle.logdiff.proofs.Turning.{next}
 use Rattle.logdiff.proofs.compare.Run.stepped.Goals as goal
 
 pub returns : goal.returns
-returns g c =
-    next _ _ _ _ _ _ _ _ _ _ c.piece.ensures.0 c.piece.ensures.1 c.piece-2.ensures.0 c.piece-2.ensures.1 c.step-step.ensures refl refl
-    c.taken.ensures c.taken-2.ensures refl c.requires c.put_said.ensures c.in_ok-make_room.ensures
+returns c =
+    next _ _ _ _ _ _ _ _ _ c.piece.ensures.0 c.piece.ensures.1 c.piece-2.ensures.0 c.piece-2.ensures.1 c.step-step.ensures refl refl
+    c.taken.ensures c.taken-2.ensures refl c.requires c.put_said.ensures

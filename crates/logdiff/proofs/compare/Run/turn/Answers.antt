@@ -4,4 +4,4 @@ use Rattle.logdiff.proofs.Turning.{turned}
 use Rattle.logdiff.proofs.compare.Run.turn.Goals as goal
 
 pub returns : goal.returns
-returns g c = turned _ _ _ _ _ _ refl refl c.filled-first.ensures c.filled-second.ensures _ c.stepped.ensures
+returns c = turned _ _ _ _ _ _ refl refl c.filled-first.ensures c.filled-second.ensures _ c.stepped.ensures
