@@ -243,6 +243,7 @@ declare -A wrong_pairs=(
     make_wrong_lines wrong_takings receiver.rs
     make_wrong_lines wrong_drains receiver.rs
     make_wrong_lines wrong_drained_shapes state.rs
+    touch "$out/wrong_copies.made"
 ) &
 wrong_copies=$!
 children+=("$wrong_copies")
@@ -360,5 +361,6 @@ wrong_cut=$copy
 make_wrong_lines wrong_limits state.rs
 make_wrong_lines wrong_logs log.rs
 make_wrong_lines wrong_pairs differences.rs
-wait "$wrong_copies"
+wait "$wrong_copies" || true
+[ -e "$out/wrong_copies.made" ]
 children=()
